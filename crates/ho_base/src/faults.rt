@@ -28,7 +28,11 @@ impl Fault {
         ensures none { IsNone result ↔ (code ≡ 0) }
         ensures fault { IfSome result (λ fault. fault ≡ code) }
     {
-        if code == 0 { None } else { Some(Fault { code }) }
+        if code == 0 {
+            None
+        } else {
+            Some(Fault { code })
+        }
     }
 
     pub fn code(&self) -> u16

@@ -1,0 +1,36 @@
+// The bytes of a field.
+ghost use Rattle.std.specs.Prelude.{◌≡◌, IfOk};
+
+use ho_base::NoMemory;
+use std::alloc::Global;
+use std::marker::Model;
+
+/// A field of a record, or a word that a field is compared with: any bytes.
+#[derive(Drop)]
+pub struct Field {
+    bytes: Vec<u8>,
+}
+
+impl Model for Field {
+    ghost use Rattle.std.specs.Prelude.{List, ℕ};
+
+    ghost Value = { List ℕ };
+
+    ghost view = { λ f. f.bytes.items };
+}
+
+impl Field {
+    /// Keeps a copy of the bytes.
+    pub fn new(alloc: Global, bytes: &[u8]) -> Result<Field, NoMemory>
+        ensures { IfOk result (λ f. f ≡ bytes.now) }
+    {
+        let bytes = Vec::from_slice(alloc, bytes)?;
+        Ok(Field { bytes })
+    }
+
+    pub fn bytes(&self) -> &[u8]
+        ensures { result.now ≡ self.now }
+    {
+        &self.bytes
+    }
+}

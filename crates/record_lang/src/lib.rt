@@ -1,0 +1,15 @@
+//! The language of pipelines and record files, and the text that a run on one thread writes.
+//!
+//! A pipeline is one to eight stages, each fed by a joint, and perhaps a guard; a record file is CSV
+//! without a header. `docs/FORMATS.md` tells both languages whole. This crate promises upward that a
+//! pipeline's text is its meaning or the first refused line, a record file its rows or the first
+//! refused row, a stage's answer the outcome of that stage, and the text that of the outcomes of all
+//! fed records. It stands on `ho_base`, on `csv` for rows and on `itoa` for digits.
+#![tactic(auto)]
+
+mod fields;
+mod numbers;
+mod pipelines;
+
+pub use fields::Field;
+pub use pipelines::{Guard, Joint, Pipeline, Relation, Stage};
