@@ -1,0 +1,14 @@
+use Rattle.std.proofs.Common.{◌≡◌, ◌≤◌, ◌-◌, ◌+◌, length, IfSome}
+use Rattle.ho_io.specs.Whole.{IsReadSoFar}
+use Rattle.ho_io.proofs.whole.fetch_whole.Given as goal
+
+abbrev pub invariant-pieces : goal.invariant-pieces
+invariant-pieces g l = record {
+  files : g.S.Shelf.files l.shelf ≡ g.S.Shelf.files l.fn.shelf;
+  within : length l.bytes.items ≤ l.fn.limit + 1;
+  so_far : IfSome (g.S.Shelf.files l.fn.shelf) (λ files. IsReadSoFar (files l.fn.name) l.bytes.items);
+  later : g.S.Shelf.faults l.fn.shelf ≤ g.S.Shelf.faults l.shelf;
+}
+
+abbrev pub decreases-pieces : goal.decreases-pieces
+decreases-pieces g l = l.fn.limit + 1 - length l.bytes.items
