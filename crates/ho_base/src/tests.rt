@@ -25,3 +25,21 @@ fn a_word_and_a_text_keep_their_bytes(rt: HostRuntime) -> Result<(), Fail> {
     assert_eq!(rt; text.bytes(), b"ending,done\n".as_slice());
     Ok(())
 }
+
+#[test]
+fn a_number_is_one_to_twenty_digits(rt: HostRuntime) {
+    let table = [
+        (b"0".as_slice(), Some(0)),
+        (b"00000000000000000007".as_slice(), Some(7)),
+        (b"000000000000000000007".as_slice(), None),
+        (b"18446744073709551615".as_slice(), Some(u64::MAX)),
+        (b"18446744073709551616".as_slice(), None),
+        (b"".as_slice(), None),
+        (b"+5".as_slice(), None),
+        (b"-0".as_slice(), None),
+        (b"5 ".as_slice(), None),
+    ];
+    for (word, number) in table {
+        assert_eq!(rt; word_number(word), number, "{word:?}");
+    }
+}
