@@ -1,0 +1,24 @@
+-- The numbers of the statuses.
+use Rattle.std.specs.Prelude.{ℕ, Bool, true, false}
+use Rattle.record_cli.specs.declared.status.Status.{Status}
+use Rattle.record_cli.specs.declared.status.Status.TheVariants as status
+
+abbrev pub status_number : Status → ℕ
+status_number status.Done = 0
+status_number status.Ended = 1
+status_number status.Usage = 2
+status_number status.Missing = 3
+status_number status.SpecRefused = 4
+status_number status.InputRefused = 5
+status_number status.TooLarge = 6
+status_number status.ReadFault = 7
+status_number status.WriteFault = 8
+status_number status.NoMemory = 9
+status_number status.NotBuilt = 10
+
+-- whether a status comes with a text that was written whole
+abbrev pub is_written : Status → Bool
+is_written status.ReadFault = false
+is_written status.WriteFault = false
+is_written status.NoMemory = false
+is_written other = true

@@ -1,0 +1,8 @@
+//! The program.
+#![tactic(auto)]
+
+mod commands;
+mod status;
+
+fn main(rt: HostRuntime) {
+}
