@@ -1,2 +1,4 @@
 pub mod Statuses
 pub mod Commands
+pub mod Plain
+pub mod Answers

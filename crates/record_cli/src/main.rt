@@ -1,8 +1,60 @@
-//! The program.
+//! The program: takes the words of the command line, runs the command that they name over real files
+//! and standard output, and exits with the number of its status.
+//!
+//! [`top::run_plain`] is the top call. Over any shelf and sink it promises the exact bytes and status
+//! for the words and files, and which faults there were; `docs/FORMATS.md` tells commands, statuses and
+//! texts. The crate stands on `record_lang` for what a pipeline and records mean, and on `ho_io` for
+//! files and output.
 #![tactic(auto)]
 
+mod answers;
 mod commands;
+mod plain;
 mod status;
+mod top;
 
-fn main(rt: HostRuntime) {
+use ho_base::Word;
+use ho_io::{DiskShelf, TerminalSink};
+use std::env;
+use std::io::ErrorKind;
+use std::process::ExitCode;
+
+use crate::status::Status;
+
+/// The exit status where the words can't be taken from the system, as where one is no text.
+const NO_WORDS: u8 = 11;
+
+// The words of the command line, or the exit status where they can't be taken.
+fn take_words(rt: &HostRuntime) -> Result<Vec<Word>, u8> {
+    let arguments = match env::args(rt) {
+        Ok(arguments) => arguments,
+        Err(error) if error.kind() == ErrorKind::OutOfMemory => {
+            return Err(Status::NoMemory.number());
+        }
+        Err(_) => return Err(NO_WORDS),
+    };
+    let mut words = Vec::new(rt.alloc());
+    for argument in arguments.skip(1) {
+        let Ok(word) = Word::new(rt.alloc(), argument.as_bytes()) else {
+            return Err(Status::NoMemory.number());
+        };
+        if words.push(word).is_err() {
+            return Err(Status::NoMemory.number());
+        }
+    }
+    Ok(words)
 }
+
+fn main(rt: HostRuntime) -> ExitCode {
+    let words = match take_words(&rt) {
+        Ok(words) => words,
+        Err(status) => return ExitCode::from(status),
+    };
+    let mut shelf = DiskShelf::new(&rt);
+    let mut out = TerminalSink::new(&rt);
+    let status = top::run_plain(rt.alloc(), &words, &mut shelf, &mut out);
+    ExitCode::from(status.number())
+}
+
+#[cfg(test)]
+mod tests;

@@ -1,0 +1,90 @@
+// What is to be answered, before anything is written.
+ghost use Rattle.std.specs.Prelude.{◌≡◌, ◌∷◌, [], map, IsTrue};
+ghost use Rattle.record_lang.specs.Texts.{line_of};
+ghost use Rattle.record_cli.specs.Answers.{IsComputed};
+ghost use Rattle.record_cli.specs.Plain.{missing, not_built, refused_place, refused_row, too_large, usage};
+ghost use Rattle.record_cli.specs.Statuses.{is_written};
+
+use crate::status::Status;
+use ho_base::{Text, Word};
+use itoa::Buffer;
+use record_lang::row_line;
+use std::alloc::Global;
+
+/// A status, and the whole text that is to be written with it.
+#[derive(Drop)]
+pub(crate) struct Answer {
+    pub status: Status,
+    pub text: Text,
+    ghost written: { IsTrue (is_written status) },
+}
+
+/// What came of a command before anything is written.
+#[derive(Drop)]
+pub(crate) enum Computed {
+    Answer(Answer),
+    ReadFault,
+    NoMemory,
+}
+
+// An answer of one row.
+fn one_row(alloc: Global, status: Status, fields: &[&[u8]]) -> Computed
+    requires { IsTrue (is_written status) }
+    ensures computed { IsComputed (record { status = status; text = line_of (map (λ f. f.now) fields.now) }) result }
+    ensures unread { result ≡ Computed.ReadFault → ⊥ }
+{
+    match row_line(alloc, fields) {
+        Ok(text) => Computed::Answer(Answer { status, text }),
+        Err(_) => Computed::NoMemory,
+    }
+}
+
+pub(crate) fn not_built(alloc: Global) -> Computed
+    ensures computed { IsComputed not_built result }
+    ensures unread { result ≡ Computed.ReadFault → ⊥ }
+{
+    one_row(alloc, Status::NotBuilt, &[b"notbuilt"])
+}
+
+pub(crate) fn usage(alloc: Global) -> Computed
+    ensures computed { IsComputed usage result }
+    ensures unread { result ≡ Computed.ReadFault → ⊥ }
+{
+    one_row(alloc, Status::Usage, &[b"usage"])
+}
+
+pub(crate) fn missing(alloc: Global, name: &Word) -> Computed
+    ensures computed { IsComputed (missing name.now) result }
+    ensures unread { result ≡ Computed.ReadFault → ⊥ }
+{
+    one_row(alloc, Status::Missing, &[b"missing", name.bytes()])
+}
+
+pub(crate) fn too_large(alloc: Global, name: &Word) -> Computed
+    ensures computed { IsComputed (too_large name.now) result }
+    ensures unread { result ≡ Computed.ReadFault → ⊥ }
+{
+    one_row(alloc, Status::TooLarge, &[b"large", name.bytes()])
+}
+
+pub(crate) fn refused_place(alloc: Global, name: &Word, place: u64, cause: u8) -> Computed
+    ensures computed { IsComputed (refused_place name.now place cause) result }
+    ensures unread { result ≡ Computed.ReadFault → ⊥ }
+{
+    let mut place_digits = Buffer::new();
+    let mut cause_digits = Buffer::new();
+    let place = place_digits.format(place).as_bytes();
+    let cause = cause_digits.format(cause).as_bytes();
+    one_row(alloc, Status::SpecRefused, &[b"spec", name.bytes(), place, cause])
+}
+
+pub(crate) fn refused_row(alloc: Global, row: u64, cause: u8) -> Computed
+    ensures computed { IsComputed (refused_row row cause) result }
+    ensures unread { result ≡ Computed.ReadFault → ⊥ }
+{
+    let mut row_digits = Buffer::new();
+    let mut cause_digits = Buffer::new();
+    let row = row_digits.format(row).as_bytes();
+    let cause = cause_digits.format(cause).as_bytes();
+    one_row(alloc, Status::InputRefused, &[b"input", row, cause])
+}

@@ -1,0 +1,105 @@
+// The command `plain`: a pipeline's file and a record file become the one-thread text.
+ghost use Rattle.std.specs.Prelude.{◌≡◌, ◌≤◌, length, IfSome};
+ghost use Rattle.ho_io.specs.Causes.{Rose};
+ghost use Rattle.record_cli.specs.Answers.{IsComputed};
+ghost use Rattle.record_cli.specs.Plain.{plain_answer, records_answer, rows_answer, text_answer};
+ghost use Rattle.record_lang.specs.Rows.{numbered_from, row_fault, rows_of};
+ghost use Rattle.std.specs.Prelude.{Some};
+
+use crate::answers::{Answer, Computed, missing, refused_place, refused_row, too_large};
+use crate::status::Status;
+use ho_base::Word;
+use ho_io::{Loaded, Shelf, fetch_whole};
+use record_lang::{InputFault, Pipeline, Records, SpecFault, one_thread_text, parse_pipeline, read_records};
+use std::alloc::Global;
+
+/// The most bytes of a pipeline's file.
+const MAX_PIPELINE: usize = 65_536;
+
+/// The most bytes of a record file.
+const MAX_RECORDS: usize = 16_777_216;
+
+// The one-thread text of some records.
+fn with_rows(alloc: Global, pipeline: &Pipeline, records: Records) -> Computed
+    ensures computed { IsComputed (rows_text pipeline.now records) result }
+    ensures unread { result ≡ Computed.ReadFault → ⊥ }
+{
+    let status = if pipeline.stops(&records) {
+        Status::Ended
+    } else {
+        Status::Done
+    };
+    match one_thread_text(alloc, pipeline, records) {
+        Ok(text) => Computed::Answer(Answer { status, text }),
+        Err(_) => Computed::NoMemory,
+    }
+}
+
+// The answer for the bytes of a record file.
+fn with_records(alloc: Global, pipeline: &Pipeline, name: &Word, bytes: &[u8]) -> Computed
+    requires { length bytes.now ≤ 16777216 }
+    ensures computed { IsComputed (records_answer name.now pipeline.now (Some bytes.now)) result }
+    ensures unread { result ≡ Computed.ReadFault → ⊥ }
+{
+    match read_records(alloc, bytes) {
+        Ok(records) => with_rows(alloc, pipeline, records),
+        Err(InputFault::Refused { row, cause }) => refused_row(alloc, row, cause),
+        Err(InputFault::TooManyRows) => too_large(alloc, name),
+        Err(InputFault::NoMemory) => Computed::NoMemory,
+    }
+}
+
+// The answer for a pipeline and a record file.
+fn with_pipeline<S: Shelf>(
+    alloc: Global,
+    shelf: &mut S,
+    pipeline: &Pipeline,
+    file: &Word,
+) -> Computed
+    ensures computed { IfSome (S.files shelf.old) (λ files. IsComputed (records_answer file.now pipeline.now (files file.now)) result) }
+    ensures later { S.faults shelf.old ≤ S.faults shelf.new }
+    ensures failed { result ≡ Computed.ReadFault → Rose (S.faults shelf.old) (S.faults shelf.new) }
+{
+    match fetch_whole(alloc, shelf, file, MAX_RECORDS) {
+        Loaded::Whole(bytes) => with_records(alloc, pipeline, file, &bytes),
+        Loaded::TooLarge => too_large(alloc, file),
+        Loaded::Missing => missing(alloc, file),
+        Loaded::Failed => Computed::ReadFault,
+        Loaded::NoMemory => Computed::NoMemory,
+    }
+}
+
+// The answer for the bytes of a pipeline's file, and a record file.
+fn with_text<S: Shelf>(
+    alloc: Global,
+    shelf: &mut S,
+    pipe: &Word,
+    text: &[u8],
+    file: &Word,
+) -> Computed
+    requires { length text.now ≤ 65536 }
+    ensures computed { IfSome (S.files shelf.old) (λ files. IsComputed (pipe_answer pipe.now file.now (Some text.now) (files file.now)) result) }
+    ensures later { S.faults shelf.old ≤ S.faults shelf.new }
+    ensures failed { result ≡ Computed.ReadFault → Rose (S.faults shelf.old) (S.faults shelf.new) }
+{
+    match parse_pipeline(alloc, text) {
+        Ok(pipeline) => with_pipeline(alloc, shelf, &pipeline, file),
+        Err(SpecFault::Refused { place, cause }) => refused_place(alloc, pipe, place, cause),
+        Err(SpecFault::NoMemory) => Computed::NoMemory,
+    }
+}
+
+/// What `plain PIPE FILE` answers. The record file is fetched only once the pipeline is read.
+pub(crate) fn plain<S: Shelf>(alloc: Global, shelf: &mut S, pipe: &Word, file: &Word) -> Computed
+    ensures computed { IfSome (S.files shelf.old) (λ files. IsComputed (plain_answer files pipe.now file.now) result) }
+    ensures later { S.faults shelf.old ≤ S.faults shelf.new }
+    ensures failed { result ≡ Computed.ReadFault → Rose (S.faults shelf.old) (S.faults shelf.new) }
+{
+    match fetch_whole(alloc, shelf, pipe, MAX_PIPELINE) {
+        Loaded::Whole(text) => with_text(alloc, shelf, pipe, &text, file),
+        Loaded::TooLarge => too_large(alloc, pipe),
+        Loaded::Missing => missing(alloc, pipe),
+        Loaded::Failed => Computed::ReadFault,
+        Loaded::NoMemory => Computed::NoMemory,
+    }
+}
