@@ -1,2 +1,4 @@
+pub mod Causes
 pub mod Numbers
 pub mod Pipelines
+pub mod Words

@@ -7,9 +7,11 @@
 //! fed records. It stands on `ho_base`, on `csv` for rows and on `itoa` for digits.
 #![tactic(auto)]
 
+mod causes;
 mod fields;
 mod numbers;
 mod pipelines;
+mod words;
 
 pub use fields::Field;
 pub use pipelines::{Guard, Joint, Pipeline, Relation, Stage};
