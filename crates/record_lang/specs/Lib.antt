@@ -1,4 +1,5 @@
 pub mod Causes
+pub mod Lines
 pub mod Numbers
 pub mod Pipelines
 pub mod Words

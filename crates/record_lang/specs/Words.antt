@@ -26,15 +26,15 @@ abbrev pub number_within : ℕ → ℕ → List ℕ → Result ℕ Cause
 number_within least most word = if is_digits word then in_range least most (digits_value 10 word) else Err BadShape
 
 -- a field's place in its record
-abbrev pub place_of : List ℕ → Result ℕ Cause
+unfoldable pub place_of : List ℕ → Result ℕ Cause
 place_of word = number_within 0 99 word
 
 -- the capacity of a joint
-abbrev pub capacity_of : List ℕ → Result ℕ Cause
+unfoldable pub capacity_of : List ℕ → Result ℕ Cause
 capacity_of word = number_within 1 65536 word
 
 -- the code of a guard
-abbrev pub code_of : List ℕ → Result ℕ Cause
+unfoldable pub code_of : List ℕ → Result ℕ Cause
 code_of word = number_within 1 65535 word
 
 -- a word without the minus at its head, if it has one
@@ -43,10 +43,10 @@ without_minus [] = []
 without_minus (c ∷ rest) = if c == 45 then rest else c ∷ rest
 
 -- the number that a minus or none and 1 to 20 digits stand for
-abbrev pub operand_of : List ℕ → Result ℤ Cause
+unfoldable pub operand_of : List ℕ → Result ℤ Cause
 operand_of word = if is_digits (without_minus word) then or_cause BadNumber (field_number word) else Err BadShape
 
-abbrev pub relation_of : List ℕ → Result Relation Cause
+unfoldable pub relation_of : List ℕ → Result Relation Cause
 relation_of word =
     if bytes_eq word (codes "lt") then Ok Less
     else if bytes_eq word (codes "le") then Ok AtMost

@@ -9,6 +9,7 @@
 
 mod causes;
 mod fields;
+mod lines;
 mod numbers;
 mod pipelines;
 mod words;

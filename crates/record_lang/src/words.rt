@@ -1,6 +1,7 @@
 // The words of a line, and what each may stand for.
 ghost use Rattle.std.specs.Prelude.{◌≡◌, map, IfOk};
 ghost use Rattle.std.specs.Str.{all_ascii_digits};
+ghost use Rattle.record_lang.specs.Pipelines.{IsCapacity};
 ghost use Rattle.record_lang.specs.Words.{capacity_of, code_of, is_digits, number_within, operand_of, place_of, relation_of, words_of};
 
 use crate::causes::Cause;
@@ -53,6 +54,7 @@ fn ranged_number(word: &[u8], least: u64, most: u64) -> Result<u64, Cause>
 }
 
 // A field's place in its record.
+#[tactic(auto, unfolding(crate::specs::Words::place_of))]
 pub(crate) fn place_in(word: &[u8]) -> Result<u32, Cause>
     ensures { result ≡ place_of word.now }
 {
@@ -61,14 +63,17 @@ pub(crate) fn place_in(word: &[u8]) -> Result<u32, Cause>
 }
 
 // The capacity of a joint.
+#[tactic(auto, unfolding(crate::specs::Words::capacity_of))]
 pub(crate) fn capacity_in(word: &[u8]) -> Result<u32, Cause>
-    ensures { result ≡ capacity_of word.now }
+    ensures capacity { result ≡ capacity_of word.now }
+    ensures buildable { IfOk result IsCapacity }
 {
     let capacity = ranged_number(word, 1, MAX_CAPACITY)?;
     Ok(capacity as u32)
 }
 
 // The code of a guard.
+#[tactic(auto, unfolding(crate::specs::Words::code_of))]
 pub(crate) fn code_in(word: &[u8]) -> Result<Fault, Cause>
     ensures { result ≡ code_of word.now }
 {
@@ -77,6 +82,7 @@ pub(crate) fn code_in(word: &[u8]) -> Result<Fault, Cause>
 }
 
 // The number with which a stage works.
+#[tactic(auto, unfolding(crate::specs::Words::operand_of))]
 pub(crate) fn operand_in(word: &[u8]) -> Result<i64, Cause>
     ensures { result ≡ operand_of word.now }
 {
@@ -90,6 +96,7 @@ pub(crate) fn operand_in(word: &[u8]) -> Result<i64, Cause>
     number_in(word).ok_or(Cause::BadNumber)
 }
 
+#[tactic(auto, unfolding(crate::specs::Words::relation_of))]
 pub(crate) fn relation_in(word: &[u8]) -> Result<Relation, Cause>
     ensures { result ≡ relation_of word.now }
 {
