@@ -8,9 +8,11 @@
 #![tactic(auto)]
 
 mod causes;
+mod drafts;
 mod fields;
 mod lines;
 mod numbers;
+mod parsing;
 mod pipelines;
 mod words;
 

@@ -10,7 +10,7 @@ use crate::causes::{Cause, both};
 use crate::words::{capacity_in, code_in, operand_in, place_in, relation_in, words_in};
 use crate::{Field, Guard, Joint, Stage};
 use ho_base::NoMemory;
-use std::alloc::{AllocError, Global};
+use std::alloc::{AllocError, AllocFailed, Global};
 
 /// What a line says.
 #[derive(Drop)]
@@ -48,6 +48,14 @@ impl From<AllocError> for LineFault {
     ghost from_gives = { λ _ told. told ≡ fault.NoMemory };
 
     fn from(_: AllocError) -> Self {
+        LineFault::NoMemory
+    }
+}
+
+impl<T: Drop> From<AllocFailed<T>> for LineFault {
+    ghost from_gives = { λ _ told. told ≡ fault.NoMemory };
+
+    fn from(_: AllocFailed<T>) -> Self {
         LineFault::NoMemory
     }
 }

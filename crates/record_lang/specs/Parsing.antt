@@ -1,0 +1,75 @@
+-- What the text of a pipeline means.
+use Rattle.std.specs.Prelude.{◌≡◌, ◌≤◌, ◌+◌, ◌++◌, ⊤, ℕ, List, [], ◌∷◌, All, length, nat_lt, ◌==◌, is_some, unwrap_or, Option, Some, None, Result, Ok, Err, if◌then◌else◌}
+use Rattle.std.specs.Option.{ForSome}
+use Rattle.std.specs.Str.Lines.{lines}
+use Rattle.record_lang.specs.Causes.{cause_number}
+use Rattle.record_lang.specs.Lines.{line_of}
+use Rattle.record_lang.specs.Pipelines.{Meaning, IsBuildable}
+use Rattle.record_lang.specs.declared.causes.Cause.{Cause}
+use Rattle.record_lang.specs.declared.causes.Cause.TheVariants.{TooMany, NoStage, LooseJoint}
+use Rattle.record_lang.specs.declared.lines.Line.{Line}
+use Rattle.record_lang.specs.declared.lines.Line.TheVariants as line
+use Rattle.record_lang.specs.declared.parsing.SpecFault.{SpecFault}
+use Rattle.record_lang.specs.declared.parsing.SpecFault.TheVariants.{Refused, NoMemory}
+use Rattle.record_lang.specs.declared.pipelines.Guard.{Guard}
+use Rattle.record_lang.specs.declared.pipelines.Joint.{Joint}
+use Rattle.record_lang.specs.declared.pipelines.Joint.TheVariants.{Wait}
+use Rattle.record_lang.specs.declared.pipelines.Stage.{Stage}
+use Rattle.record_lang.specs.SoFar.{SoFar}
+
+-- one more stage, fed by the joint before it, or else by `joint wait 16`
+abbrev pub with_stage : SoFar → Stage → Result SoFar Cause
+with_stage before next =
+    if nat_lt (length before.stages) 8 then Ok (record { stages = before.stages ++ next ∷ []; joints = before.joints ++ unwrap_or before.loose (Wait 16) ∷ []; guard = before.guard; loose = None })
+    else Err TooMany
+
+-- a joint, for the stage that comes
+abbrev pub with_joint : SoFar → Joint → Result SoFar Cause
+with_joint before joint = if is_some before.loose then Err TooMany else Ok (record before { loose = Some joint })
+
+abbrev pub with_guard : SoFar → Guard → Result SoFar Cause
+with_guard before guard = if is_some before.guard then Err TooMany else Ok (record before { guard = Some guard })
+
+-- what the lines say, with one more
+abbrev pub with_line : SoFar → Line → Result SoFar Cause
+with_line before line.Nothing = Ok before
+with_line before (line.Stage next) = with_stage before next
+with_line before (line.Joint joint) = with_joint before joint
+with_line before (line.Guard guard) = with_guard before guard
+
+abbrev pub with_told : SoFar → Result Line Cause → Result SoFar Cause
+with_told before (Ok next) = with_line before next
+with_told before (Err cause) = Err cause
+
+-- before the first line
+abbrev pub nothing_yet : SoFar
+nothing_yet = record { stages = []; joints = []; guard = None; loose = None }
+
+-- after the last line
+abbrev pub whole : SoFar → Result Meaning Cause
+whole all =
+    if length all.stages == 0 then Err NoStage
+    else if is_some all.loose then Err LooseJoint
+    else Ok (record { stages = all.stages; joints = all.joints; guard = all.guard })
+
+abbrev pub at_place : {A : Type 0} → ℕ → Result A Cause → Result A SpecFault
+at_place place (Ok a) = Ok a
+at_place place (Err cause) = Err (Refused place (cause_number cause))
+
+-- the meaning of what was said so far and these lines, the first of which has this place
+unfoldable pub reading_from : ℕ → SoFar → List (List ℕ) → Result Meaning SpecFault
+reading_from place before [] = at_place place (whole before)
+reading_from place before (next ∷ rest) = elim (with_told before (line_of next)) [
+    | Ok after ↦ reading_from (place + 1) after rest
+    | Err cause ↦ Err (Refused place (cause_number cause))
+  ]
+
+-- the meaning of a text, or the first refused line with its first cause
+abbrev pub reading_of : List ℕ → Result Meaning SpecFault
+reading_of text = reading_from 0 nothing_yet (lines text)
+
+-- the reading was told, unless there was no memory
+abbrev pub TellsPipeline : Result Meaning SpecFault → Result Meaning SpecFault → Type 0
+TellsPipeline reading (Ok pipeline) = reading ≡ Ok pipeline
+TellsPipeline reading (Err (Refused place cause)) = reading ≡ Err (Refused place cause)
+TellsPipeline reading (Err NoMemory) = ⊤
