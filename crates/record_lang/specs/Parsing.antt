@@ -1,14 +1,15 @@
 -- What the text of a pipeline means.
-use Rattle.std.specs.Prelude.{◌≡◌, ◌≤◌, ◌+◌, ◌++◌, ⊤, ℕ, List, [], ◌∷◌, All, length, nat_lt, ◌==◌, is_some, unwrap_or, Option, Some, None, Result, Ok, Err, if◌then◌else◌}
-use Rattle.std.specs.Option.{ForSome}
+use Rattle.std.specs.Prelude.{◌≡◌, ◌<◌, ◌+◌, ◌++◌, ⊤, ℕ, List, [], ◌∷◌, length, nat_lt, ◌==◌, is_some, unwrap_or, Option, Some, None, Result, Ok, Err, if◌then◌else◌}
 use Rattle.std.specs.Str.Lines.{lines}
 use Rattle.record_lang.specs.Causes.{cause_number}
 use Rattle.record_lang.specs.Lines.{line_of}
-use Rattle.record_lang.specs.Pipelines.{Meaning, IsBuildable}
+use Rattle.record_lang.specs.Pipelines.{Meaning}
 use Rattle.record_lang.specs.declared.causes.Cause.{Cause}
 use Rattle.record_lang.specs.declared.causes.Cause.TheVariants.{TooMany, NoStage, LooseJoint}
 use Rattle.record_lang.specs.declared.lines.Line.{Line}
 use Rattle.record_lang.specs.declared.lines.Line.TheVariants as line
+use Rattle.record_lang.specs.declared.lines.LineFault.{LineFault}
+use Rattle.record_lang.specs.declared.lines.LineFault.TheVariants as line_fault
 use Rattle.record_lang.specs.declared.parsing.SpecFault.{SpecFault}
 use Rattle.record_lang.specs.declared.parsing.SpecFault.TheVariants.{Refused, NoMemory}
 use Rattle.record_lang.specs.declared.pipelines.Guard.{Guard}
@@ -56,13 +57,25 @@ abbrev pub at_place : {A : Type 0} → ℕ → Result A Cause → Result A SpecF
 at_place place (Ok a) = Ok a
 at_place place (Err cause) = Err (Refused place (cause_number cause))
 
+-- the fault of a text whose line at this place has this one
+abbrev pub fault_at : ℕ → LineFault → SpecFault
+fault_at place (line_fault.Refused cause) = Refused place (cause_number cause)
+fault_at place line_fault.NoMemory = NoMemory
+
+-- the line comes first in the text, and then what is after it
+pub record IsFirstLine (first after text : List ℕ) : Type 0 where
+  pub first_of : lines text ≡ first ∷ lines after
+  pub shorter : length after < length text
+
+-- what is made of what the lines say, unless the line at this place is refused
+abbrev pub unless_refused : ℕ → Result SoFar Cause → (SoFar → Result Meaning SpecFault) → Result Meaning SpecFault
+unless_refused place (Ok after) more = more after
+unless_refused place (Err cause) more = Err (Refused place (cause_number cause))
+
 -- the meaning of what was said so far and these lines, the first of which has this place
 unfoldable pub reading_from : ℕ → SoFar → List (List ℕ) → Result Meaning SpecFault
 reading_from place before [] = at_place place (whole before)
-reading_from place before (next ∷ rest) = elim (with_told before (line_of next)) [
-    | Ok after ↦ reading_from (place + 1) after rest
-    | Err cause ↦ Err (Refused place (cause_number cause))
-  ]
+reading_from place before (next ∷ rest) = unless_refused place (with_told before (line_of next)) (λ after. reading_from (place + 1) after rest)
 
 -- the meaning of a text, or the first refused line with its first cause
 abbrev pub reading_of : List ℕ → Result Meaning SpecFault

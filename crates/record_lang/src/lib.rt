@@ -17,4 +17,5 @@ mod pipelines;
 mod words;
 
 pub use fields::Field;
+pub use parsing::{SpecFault, parse_pipeline};
 pub use pipelines::{Guard, Joint, Pipeline, Relation, Stage};
