@@ -1,9 +1,9 @@
 -- The reading of a text, one line at a time.
 use Rattle.std.proofs.Common.{◌≡◌, ◌+◌, ◌∷◌, ◌∙◌, ℕ, List, [], Result, Ok, Err, refl, ap, sym}
 use Rattle.std.specs.Str.Lines.{lines}
-use Rattle.record_lang.specs.Causes.{cause_number}
-use Rattle.record_lang.specs.Lines.{line_of, Tells}
-use Rattle.record_lang.specs.Parsing.{at_place, fault_at, reading_from, unless_refused, whole, with_told, IsFirstLine, TellsPipeline}
+use Rattle.record_lang.specs.Causes.{and_then}
+use Rattle.record_lang.specs.Lines.{Tells}
+use Rattle.record_lang.specs.Parsing.{at_place, fault_at, reading_from, whole, with_text, IsFirstLine, TellsPipeline}
 use Rattle.record_lang.specs.Pipelines.{Meaning}
 use Rattle.record_lang.specs.SoFar.{SoFar}
 use Rattle.record_lang.specs.declared.causes.Cause.{Cause}
@@ -13,16 +13,16 @@ use Rattle.record_lang.specs.declared.parsing.SpecFault.{SpecFault}
 use Rattle.record_lang.specs.declared.parsing.SpecFault.TheVariants.{Refused, NoMemory}
 
 -- with a first line
-reading_from-first : (place : ℕ) (before : SoFar) (first left text : List ℕ) (told : Result SoFar Cause) → IsFirstLine first left text → with_told before (line_of first) ≡ told → reading_from place before (lines text) ≡ unless_refused place told (λ after. reading_from (place + 1) after (lines left))
+reading_from-first : (place : ℕ) (before : SoFar) (first left text : List ℕ) (told : Result SoFar Cause) → IsFirstLine first left text → with_text before first ≡ told → reading_from place before (lines text) ≡ and_then (at_place place told) (λ after. reading_from (place + 1) after (lines left))
 unfolding reading_from
-reading_from-first place before first left text told stands tells = ap (reading_from place before) stands.first_of ∙ ap (λ z. unless_refused place z (λ after. reading_from (place + 1) after (lines left))) tells
+reading_from-first place before first left text told stands tells = ap (reading_from place before) stands.first_of ∙ ap (λ z. and_then (at_place place z) (λ after. reading_from (place + 1) after (lines left))) tells
 
 -- one line more
-pub reading_from-told : (place : ℕ) (before after : SoFar) (first left text : List ℕ) (reading : Result Meaning SpecFault) → IsFirstLine first left text → with_told before (line_of first) ≡ Ok after → reading_from place before (lines text) ≡ reading → reading_from (place + 1) after (lines left) ≡ reading
+pub reading_from-told : (place : ℕ) (before after : SoFar) (first left text : List ℕ) (reading : Result Meaning SpecFault) → IsFirstLine first left text → with_text before first ≡ Ok after → reading_from place before (lines text) ≡ reading → reading_from (place + 1) after (lines left) ≡ reading
 reading_from-told place before after first left text reading stands tells so_far = sym (reading_from-first place before first left text (Ok after) stands tells) ∙ so_far
 
 -- a line that is refused, or for which there is no memory
-pub reading_from-refused : (place : ℕ) (before : SoFar) (first left text : List ℕ) (fault : LineFault) (told : SpecFault) (reading : Result Meaning SpecFault) → IsFirstLine first left text → Tells (with_told before (line_of first)) (Err fault) → told ≡ fault_at place fault → reading_from place before (lines text) ≡ reading → TellsPipeline reading (Err told)
+pub reading_from-refused : (place : ℕ) (before : SoFar) (first left text : List ℕ) (fault : LineFault) (told : SpecFault) (reading : Result Meaning SpecFault) → IsFirstLine first left text → Tells (with_text before first) (Err fault) → told ≡ fault_at place fault → reading_from place before (lines text) ≡ reading → TellsPipeline reading (Err told)
 reading_from-refused place before first left text (line_fault.Refused cause) told reading stands tells is so_far = rw is (sym so_far ∙ reading_from-first place before first left text (Err cause) stands tells)
 reading_from-refused place before first left text line_fault.NoMemory told reading stands tells is so_far = rw is tt
 

@@ -1,5 +1,5 @@
 -- Why a pipeline's text is refused.
-use Rattle.std.specs.Prelude.{ℕ, nat_le, Option, Some, None, Result, Ok, Err, if◌then◌else◌}
+use Rattle.std.specs.Prelude.{ℕ, nat_le, Result, Ok, Err, if◌then◌else◌}
 use Rattle.record_lang.specs.declared.causes.Cause.{Cause}
 use Rattle.record_lang.specs.declared.causes.Cause.TheVariants.{BadByte, UnknownLine, BadShape, BadNumber, TooMany, NoStage, LooseJoint}
 
@@ -28,7 +28,7 @@ abbrev pub made_of : {A B : Type 0} → (A → B) → Result A Cause → Result 
 made_of make (Ok a) = Ok (make a)
 made_of make (Err cause) = Err cause
 
--- a part that is there, or the cause
-abbrev pub or_cause : {A : Type 0} → Cause → Option A → Result A Cause
-or_cause cause None = Err cause
-or_cause cause (Some a) = Ok a
+-- what follows where nothing is refused
+abbrev pub and_then : {A B E : Type 0} → Result A E → (A → Result B E) → Result B E
+and_then (Ok a) next = next a
+and_then (Err refusal) next = Err refusal

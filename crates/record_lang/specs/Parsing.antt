@@ -1,7 +1,7 @@
 -- What the text of a pipeline means.
 use Rattle.std.specs.Prelude.{◌≡◌, ◌<◌, ◌+◌, ◌++◌, ⊤, ℕ, List, [], ◌∷◌, length, nat_lt, ◌==◌, is_some, unwrap_or, Option, Some, None, Result, Ok, Err, if◌then◌else◌}
 use Rattle.std.specs.Str.Lines.{lines}
-use Rattle.record_lang.specs.Causes.{cause_number}
+use Rattle.record_lang.specs.Causes.{and_then, cause_number}
 use Rattle.record_lang.specs.Lines.{line_of}
 use Rattle.record_lang.specs.Pipelines.{Meaning}
 use Rattle.record_lang.specs.declared.causes.Cause.{Cause}
@@ -38,9 +38,9 @@ with_line before (line.Stage next) = with_stage before next
 with_line before (line.Joint joint) = with_joint before joint
 with_line before (line.Guard guard) = with_guard before guard
 
-abbrev pub with_told : SoFar → Result Line Cause → Result SoFar Cause
-with_told before (Ok next) = with_line before next
-with_told before (Err cause) = Err cause
+-- what the lines say, with one more, unless that one is refused
+abbrev pub with_text : SoFar → List ℕ → Result SoFar Cause
+with_text before text = and_then (line_of text) (λ next. with_line before next)
 
 -- before the first line
 abbrev pub nothing_yet : SoFar
@@ -53,13 +53,16 @@ whole all =
     else if is_some all.loose then Err LooseJoint
     else Ok (record { stages = all.stages; joints = all.joints; guard = all.guard })
 
+abbrev pub refused_at : ℕ → Cause → SpecFault
+refused_at place cause = Refused place (cause_number cause)
+
+-- what was told at this place of the text
 abbrev pub at_place : {A : Type 0} → ℕ → Result A Cause → Result A SpecFault
 at_place place (Ok a) = Ok a
-at_place place (Err cause) = Err (Refused place (cause_number cause))
+at_place place (Err cause) = Err (refused_at place cause)
 
--- the fault of a text whose line at this place has this one
 abbrev pub fault_at : ℕ → LineFault → SpecFault
-fault_at place (line_fault.Refused cause) = Refused place (cause_number cause)
+fault_at place (line_fault.Refused cause) = refused_at place cause
 fault_at place line_fault.NoMemory = NoMemory
 
 -- the line comes first in the text, and then what is after it
@@ -67,15 +70,10 @@ pub record IsFirstLine (first after text : List ℕ) : Type 0 where
   pub first_of : lines text ≡ first ∷ lines after
   pub shorter : length after < length text
 
--- what is made of what the lines say, unless the line at this place is refused
-abbrev pub unless_refused : ℕ → Result SoFar Cause → (SoFar → Result Meaning SpecFault) → Result Meaning SpecFault
-unless_refused place (Ok after) more = more after
-unless_refused place (Err cause) more = Err (Refused place (cause_number cause))
-
 -- the meaning of what was said so far and these lines, the first of which has this place
 unfoldable pub reading_from : ℕ → SoFar → List (List ℕ) → Result Meaning SpecFault
 reading_from place before [] = at_place place (whole before)
-reading_from place before (next ∷ rest) = unless_refused place (with_told before (line_of next)) (λ after. reading_from (place + 1) after rest)
+reading_from place before (next ∷ rest) = and_then (at_place place (with_text before next)) (λ after. reading_from (place + 1) after rest)
 
 -- the meaning of a text, or the first refused line with its first cause
 abbrev pub reading_of : List ℕ → Result Meaning SpecFault

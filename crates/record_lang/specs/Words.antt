@@ -1,9 +1,9 @@
 -- The words of a line, and what each may stand for.
 use Rattle.std.specs.Prelude.{ℕ, ℤ, List, [], ◌∷◌, Bool, ◌&&◌, ◌==◌, nat_lt, nat_le, length, filter, codes, Result, Ok, Err, if◌then◌else◌}
 use Rattle.std.specs.List.{slice_split}
+use Rattle.std.specs.Option.{ok_or}
 use Rattle.std.specs.Str.{all_ascii_digits, bytes_eq}
 use Rattle.std.specs.Str.Parse.{digits_value}
-use Rattle.record_lang.specs.Causes.{or_cause}
 use Rattle.record_lang.specs.Numbers.{field_number}
 use Rattle.record_lang.specs.declared.causes.Cause.{Cause}
 use Rattle.record_lang.specs.declared.causes.Cause.TheVariants.{BadShape, BadNumber}
@@ -44,7 +44,7 @@ without_minus (c ∷ rest) = if c == 45 then rest else c ∷ rest
 
 -- the number that a minus or none and 1 to 20 digits stand for
 unfoldable pub operand_of : List ℕ → Result ℤ Cause
-operand_of word = if is_digits (without_minus word) then or_cause BadNumber (field_number word) else Err BadShape
+operand_of word = if is_digits (without_minus word) then ok_or (field_number word) BadNumber else Err BadShape
 
 unfoldable pub relation_of : List ℕ → Result Relation Cause
 relation_of word =

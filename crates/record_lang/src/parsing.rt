@@ -2,8 +2,8 @@
 ghost use Rattle.std.specs.Prelude.{◌≡◌, ◌==◌, [], MatchOption};
 ghost use Rattle.std.specs.List.{position};
 ghost use Rattle.std.specs.Str.Lines.{lines, strip_carriage_return};
-ghost use Rattle.record_lang.specs.Lines.{line_of, Tells};
-ghost use Rattle.record_lang.specs.Parsing.{fault_at, reading_of, whole, with_told, at_place, IsFirstLine, TellsPipeline};
+ghost use Rattle.record_lang.specs.Lines.{Tells};
+ghost use Rattle.record_lang.specs.Parsing.{fault_at, reading_of, with_text, whole, at_place, IsFirstLine, TellsPipeline};
 
 use crate::drafts::Draft;
 use crate::lines::{LineFault, line_in};
@@ -70,8 +70,8 @@ fn first_line(text: &[u8]) -> Option<(&[u8], &[u8])>
 }
 
 // What the lines say, with one more that stands there.
-fn with_text(alloc: Global, draft: Draft, line: &[u8]) -> Result<Draft, LineFault>
-    ensures { Tells (with_told draft (line_of line.now)) result }
+fn extended(alloc: Global, draft: Draft, line: &[u8]) -> Result<Draft, LineFault>
+    ensures { Tells (with_text draft line.now) result }
 {
     let line = line_in(alloc, line)?;
     draft.with_line(line)
@@ -96,7 +96,7 @@ pub fn parse_pipeline(alloc: Global, bytes: &[u8]) -> Result<Pipeline, SpecFault
     let mut rest = bytes;
     let mut place = 0;
     'lines: while let Some((line, after)) = first_line(rest) {
-        draft = match with_text(alloc, draft, line) {
+        draft = match extended(alloc, draft, line) {
             Ok(longer) => longer,
             Err(fault) => return Err(fault_of_line(place, fault)),
         };
