@@ -7,9 +7,15 @@
 //! fed records. It stands on `ho_base`, on `csv` for rows and on `itoa` for digits.
 #![tactic(auto)]
 
+mod causes;
+mod drafts;
 mod fields;
+mod lines;
 mod numbers;
+mod parsing;
 mod pipelines;
+mod words;
 
 pub use fields::Field;
+pub use parsing::{SpecFault, parse_pipeline};
 pub use pipelines::{Guard, Joint, Pipeline, Relation, Stage};

@@ -1,0 +1,115 @@
+-- What a line of a pipeline's text says.
+use Rattle.std.specs.Prelude.{◌≡◌, ⊤, ℕ, ℤ, List, [], ◌∷◌, Bool, ◌&&◌, ◌==◌, nat_le, codes, Result, Ok, Err, if◌then◌else◌}
+use Rattle.std.specs.List.{list_all}
+use Rattle.std.specs.Str.{bytes_eq}
+use Rattle.record_lang.specs.Causes.{made_of, together}
+use Rattle.record_lang.specs.Pipelines.{IsBuildable}
+use Rattle.record_lang.specs.Words.{capacity_of, code_of, operand_of, place_of, relation_of, words_of}
+use Rattle.record_lang.specs.declared.causes.Cause.{Cause}
+use Rattle.record_lang.specs.declared.causes.Cause.TheVariants.{BadByte, UnknownLine, BadShape}
+use Rattle.record_lang.specs.declared.lines.Line.{Line}
+use Rattle.record_lang.specs.declared.lines.Line.TheVariants as line
+use Rattle.record_lang.specs.declared.lines.LineFault.{LineFault}
+use Rattle.record_lang.specs.declared.lines.LineFault.TheVariants.{Refused, NoMemory}
+use Rattle.record_lang.specs.declared.pipelines.Guard.{Guard}
+use Rattle.record_lang.specs.declared.pipelines.Joint.{Joint}
+use Rattle.record_lang.specs.declared.pipelines.Joint.TheVariants.{Wait, DropNewest, DropOldest, DropWrite, Unbounded}
+use Rattle.record_lang.specs.declared.pipelines.Stage.{Stage}
+use Rattle.record_lang.specs.declared.pipelines.Stage.TheVariants as stage
+
+-- what is read of just one, two or three words
+abbrev pub of_one : {A : Type 0} → (List ℕ → Result A Cause) → List (List ℕ) → Result A Cause
+of_one read (a ∷ []) = read a
+of_one read words = Err BadShape
+
+abbrev pub of_two : {A : Type 0} → (List ℕ → List ℕ → Result A Cause) → List (List ℕ) → Result A Cause
+of_two read (a ∷ b ∷ []) = read a b
+of_two read words = Err BadShape
+
+abbrev pub of_three : {A : Type 0} → (List ℕ → List ℕ → List ℕ → Result A Cause) → List (List ℕ) → Result A Cause
+of_three read (a ∷ b ∷ c ∷ []) = read a b c
+of_three read words = Err BadShape
+
+-- `F`, `F G` and `F N`
+abbrev pub one_place : List (List ℕ) → Result ℕ Cause
+one_place words = of_one (λ f. place_of f) words
+
+abbrev pub two_places : List (List ℕ) → Result (ℕ × ℕ) Cause
+two_places words = of_two (λ f g. together (place_of f) (place_of g)) words
+
+abbrev pub place_and_operand : List (List ℕ) → Result (ℕ × ℤ) Cause
+place_and_operand words = of_two (λ f n. together (place_of f) (operand_of n)) words
+
+-- `keep F REL N`
+abbrev pub keep_of : List (List ℕ) → Result Stage Cause
+keep_of words = of_three (λ f relation n. made_of (λ parts. stage.Keep parts.0 parts.1.0 parts.1.1) (together (place_of f) (together (relation_of relation) (operand_of n)))) words
+
+-- `match F TEXT`
+abbrev pub match_of : List (List ℕ) → Result Stage Cause
+match_of words = of_two (λ f text. made_of (λ place. stage.Match place text) (place_of f)) words
+
+-- an operation with its arguments
+unfoldable pub operation_of : List ℕ → List (List ℕ) → Result Stage Cause
+operation_of name arguments =
+    if bytes_eq name (codes "keep") then keep_of arguments
+    else if bytes_eq name (codes "match") then match_of arguments
+    else if bytes_eq name (codes "add") then made_of (λ parts. stage.Add parts.0 parts.1) (place_and_operand arguments)
+    else if bytes_eq name (codes "mul") then made_of (λ parts. stage.Mul parts.0 parts.1) (place_and_operand arguments)
+    else if bytes_eq name (codes "sum") then made_of (λ parts. stage.Sum parts.0 parts.1) (two_places arguments)
+    else if bytes_eq name (codes "cat") then made_of (λ parts. stage.Cat parts.0 parts.1) (two_places arguments)
+    else if bytes_eq name (codes "copy") then made_of (λ place. stage.Copy place) (one_place arguments)
+    else if bytes_eq name (codes "cut") then made_of (λ place. stage.Cut place) (one_place arguments)
+    else Err BadShape
+
+abbrev pub stage_of : List (List ℕ) → Result Stage Cause
+stage_of [] = Err BadShape
+stage_of (name ∷ arguments) = operation_of name arguments
+
+-- a joint with this full mode and capacity
+abbrev pub bounded_joint : List ℕ → Result ℕ Cause → Result Joint Cause
+bounded_joint mode capacity =
+    if bytes_eq mode (codes "wait") then made_of (λ n. Wait n) capacity
+    else if bytes_eq mode (codes "dropnewest") then made_of (λ n. DropNewest n) capacity
+    else if bytes_eq mode (codes "dropoldest") then made_of (λ n. DropOldest n) capacity
+    else if bytes_eq mode (codes "dropwrite") then made_of (λ n. DropWrite n) capacity
+    else Err BadShape
+
+unfoldable pub joint_of : List (List ℕ) → Result Joint Cause
+joint_of (mode ∷ []) = if bytes_eq mode (codes "unbounded") then Ok Unbounded else Err BadShape
+joint_of (mode ∷ capacity ∷ []) = bounded_joint mode (capacity_of capacity)
+joint_of words = Err BadShape
+
+-- `guard F TEXT CODE`
+abbrev pub guard_of : List (List ℕ) → Result Guard Cause
+guard_of words = of_three (λ f text code. made_of (λ parts. record { field = parts.0; text = text; code = parts.1 }) (together (place_of f) (code_of code))) words
+
+-- what the words of a line say together
+unfoldable pub line_of_words : List (List ℕ) → Result Line Cause
+line_of_words [] = Ok line.Nothing
+line_of_words (first ∷ rest) =
+    if bytes_eq first (codes "stage") then made_of (λ s. line.Stage s) (stage_of rest)
+    else if bytes_eq first (codes "joint") then made_of (λ j. line.Joint j) (joint_of rest)
+    else if bytes_eq first (codes "guard") then made_of (λ g. line.Guard g) (guard_of rest)
+    else Err UnknownLine
+
+abbrev pub is_printable : ℕ → Bool
+is_printable b = nat_le 32 b && nat_le b 126
+
+-- what a line says: nothing where it is empty or begins with `#`
+unfoldable pub line_of : List ℕ → Result Line Cause
+line_of [] = Ok line.Nothing
+line_of (c ∷ rest) =
+    if c == 35 then Ok line.Nothing
+    else if list_all is_printable (c ∷ rest) then line_of_words (words_of (c ∷ rest))
+    else Err BadByte
+
+-- a joint of the line can be built
+abbrev pub IsBuildableLine : Line → Type 0
+IsBuildableLine (line.Joint joint) = IsBuildable joint
+IsBuildableLine other = ⊤
+
+-- what is expected was told, unless there was no memory
+abbrev pub Tells : {A : Type 0} → Result A Cause → Result A LineFault → Type 0
+Tells expected (Ok told) = expected ≡ Ok told
+Tells expected (Err (Refused cause)) = expected ≡ Err cause
+Tells expected (Err NoMemory) = ⊤
