@@ -1,0 +1,10 @@
+pub mod Entries
+pub mod Answers
+pub mod Queue
+pub mod Bag
+pub mod Channel
+pub mod Blocking
+pub mod Objects
+pub mod Tallies
+pub mod Histories
+pub mod Rows
