@@ -5,9 +5,9 @@ ghost use Rattle.std.specs.Str.Lines.{lines, strip_carriage_return};
 ghost use Rattle.record_lang.specs.Lines.{Tells};
 ghost use Rattle.record_lang.specs.Parsing.{fault_at, reading_of, with_text, whole, at_place, IsFirstLine, TellsPipeline};
 
+use crate::Pipeline;
 use crate::drafts::Draft;
 use crate::lines::{LineFault, line_in};
-use crate::Pipeline;
 use std::alloc::Global;
 
 /// Why a pipeline's text is not read.
@@ -17,10 +17,7 @@ pub enum SpecFault {
     /// end; and the cause: 1 a byte outside 0x20 to 0x7E; 2 a first word that begins no line; 3 a line
     /// or word that is not of its form; 4 digits whose value is out of range; 5 a ninth stage, a
     /// second guard or a second joint before a stage; 6 no stage; 7 a joint after the last stage.
-    Refused {
-        place: u64,
-        cause: u8,
-    },
+    Refused { place: u64, cause: u8 },
     NoMemory,
 }
 
@@ -105,3 +102,6 @@ pub fn parse_pipeline(alloc: Global, bytes: &[u8]) -> Result<Pipeline, SpecFault
     }
     finished(draft, place)
 }
+
+#[cfg(test)]
+mod tests;

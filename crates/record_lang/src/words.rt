@@ -4,15 +4,18 @@ ghost use Rattle.std.specs.Str.{all_ascii_digits};
 ghost use Rattle.record_lang.specs.Pipelines.{IsCapacity};
 ghost use Rattle.record_lang.specs.Words.{capacity_of, code_of, is_digits, number_within, operand_of, place_of, relation_of, words_of};
 
+use crate::Relation;
 use crate::causes::Cause;
 use crate::numbers::{magnitude, number_in};
-use crate::Relation;
 use ho_base::Fault;
 use std::alloc::{AllocError, Global};
 
 const MAX_DIGITS: usize = 20;
+
 const LAST_PLACE: u64 = 99;
+
 const MAX_CAPACITY: u64 = 65_536;
+
 const MAX_CODE: u64 = 65_535;
 
 // The words of a line.
