@@ -1,7 +1,7 @@
 -- The first line of a text, and the lines after it.
 use Rattle.std.proofs.Common.{◌≡◌, ◌<◌, ◌≤◌, ◌+◌, ◌∙◌, ◌==◌, inl, inr, ltb, ℕ, List, [], ◌∷◌, length, take, drop, Bool, false, Option, Some, None, refl, ap, arith}
 use Rattle.std.specs.List.{onto_first, position, position_or_len, slice_split}
-use Rattle.std.specs.Str.Lines.{lines, lines_of_parts, strip_carriage_return}
+use Rattle.std.specs.Str.Lines.{lines_of_parts, strip_carriage_return}
 use Rattle.std.proofs.lemmas.Bool.{cases_Bool}
 use Rattle.std.proofs.lemmas.Bool.Decides.{nat_tests}
 use Rattle.std.proofs.lemmas.List.{length-drop}
