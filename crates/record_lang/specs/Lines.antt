@@ -21,7 +21,7 @@ use Rattle.record_lang.specs.declared.words.FullMode.TheVariants as mode
 use Rattle.record_lang.specs.declared.words.Operation.{Operation}
 use Rattle.record_lang.specs.declared.words.Operation.TheVariants as operation
 
--- what is read of just one, two or three words
+-- what is read of as many words, and of no other count
 abbrev pub of_one : {A : Type 0} → (List ℕ → Result A Cause) → List (List ℕ) → Result A Cause
 of_one read (a ∷ []) = read a
 of_one read words = Err BadShape
@@ -36,7 +36,7 @@ of_three read words = Err BadShape
 
 -- `F`, `F G` and `F N`
 abbrev pub one_place : List (List ℕ) → Result ℕ Cause
-one_place words = of_one (λ f. place_of f) words
+one_place words = of_one place_of words
 
 abbrev pub two_places : List (List ℕ) → Result (ℕ × ℕ) Cause
 two_places words = of_two (λ f g. together (place_of f) (place_of g)) words
@@ -60,13 +60,13 @@ stage_with operation.Add arguments = made_of (λ parts. stage.Add parts.0 parts.
 stage_with operation.Mul arguments = made_of (λ parts. stage.Mul parts.0 parts.1) (place_and_operand arguments)
 stage_with operation.Sum arguments = made_of (λ parts. stage.Sum parts.0 parts.1) (two_places arguments)
 stage_with operation.Cat arguments = made_of (λ parts. stage.Cat parts.0 parts.1) (two_places arguments)
-stage_with operation.Copy arguments = made_of (λ place. stage.Copy place) (one_place arguments)
-stage_with operation.Cut arguments = made_of (λ place. stage.Cut place) (one_place arguments)
+stage_with operation.Copy arguments = made_of stage.Copy (one_place arguments)
+stage_with operation.Cut arguments = made_of stage.Cut (one_place arguments)
 
 -- what stands after `stage`
 abbrev pub stage_of : List (List ℕ) → Result Stage Cause
 stage_of [] = Err BadShape
-stage_of (name ∷ arguments) = and_then (operation_of name) (λ operation. stage_with operation arguments)
+stage_of (name ∷ arguments) = and_then (operation_of name) (λ named. stage_with named arguments)
 
 -- a joint with this full mode and capacity
 abbrev pub joint_with : FullMode → ℕ → Joint
@@ -89,15 +89,15 @@ guard_of words = of_three (λ f text code. made_of (λ parts. record { field = p
 unfoldable pub line_of_words : List (List ℕ) → Result Line Cause
 line_of_words [] = Ok line.Nothing
 line_of_words (first ∷ rest) =
-    if bytes_eq first (codes "stage") then made_of (λ s. line.Stage s) (stage_of rest)
-    else if bytes_eq first (codes "joint") then made_of (λ j. line.Joint j) (joint_of rest)
-    else if bytes_eq first (codes "guard") then made_of (λ g. line.Guard g) (guard_of rest)
+    if bytes_eq first (codes "stage") then made_of line.Stage (stage_of rest)
+    else if bytes_eq first (codes "joint") then made_of line.Joint (joint_of rest)
+    else if bytes_eq first (codes "guard") then made_of line.Guard (guard_of rest)
     else Err UnknownLine
 
 abbrev pub is_printable : ℕ → Bool
 is_printable b = nat_le 32 b && nat_le b 126
 
--- what a line says: nothing where it is empty or begins with `#`
+-- what a line says: nothing where it is empty or begins with `#`, and else what its words say
 unfoldable pub line_of : List ℕ → Result Line Cause
 line_of [] = Ok line.Nothing
 line_of (c ∷ rest) =
