@@ -1,7 +1,7 @@
 -- The first line of a text, and the lines after it.
 use Rattle.std.proofs.Common.{◌≡◌, ◌<◌, ◌≤◌, ◌+◌, ◌∙◌, ◌==◌, inl, inr, ltb, ℕ, List, [], ◌∷◌, length, take, drop, Bool, false, Option, Some, None, refl, ap, arith}
 use Rattle.std.specs.List.{onto_first, position, position_or_len, slice_split}
-use Rattle.std.specs.Str.Lines.{lines, lines_of_parts, strip_carriage_return}
+use Rattle.std.specs.Str.Lines.{lines_of_parts, strip_carriage_return}
 use Rattle.std.proofs.lemmas.Bool.{cases_Bool}
 use Rattle.std.proofs.lemmas.Bool.Decides.{nat_tests}
 use Rattle.std.proofs.lemmas.List.{length-drop}
@@ -17,9 +17,9 @@ onto_first-some x (part ∷ parts) = (x ∷ part, parts, refl)
 slice_split-some : (p : ℕ → Bool) (xs : List ℕ) → (y : List ℕ) × (ys : List (List ℕ)) × (slice_split p xs ≡ y ∷ ys)
 slice_split-some p [] = ([], [], refl)
 slice_split-some p (x ∷ xs) = elim (cases_Bool (p x)) [
-    | inl is ↦ ([], slice_split p xs, slice_split-cons_yes p x xs is)
-    | inr not ↦ let some = onto_first-some x (slice_split p xs) in (some.0, some.1, slice_split-cons_no p x xs not ∙ some.2)
-  ]
+  | inl is ↦ ([], slice_split p xs, slice_split-cons_yes p x xs is)
+  | inr not ↦ let some = onto_first-some x (slice_split p xs) in (some.0, some.1, slice_split-cons_no p x xs not ∙ some.2)
+]
 
 -- a part that another follows is a line before a line feed
 lines_of_parts-cons : (part : List ℕ) (p : ℕ → Bool) (rest : List ℕ) → lines_of_parts (part ∷ slice_split p rest) ≡ strip_carriage_return part ∷ lines_of_parts (slice_split p rest)
@@ -40,9 +40,9 @@ slice_split-found p xs n is =
 slice_split-past : (p : ℕ → Bool) (xs : List ℕ) → length xs ≤ position_or_len p xs → slice_split p xs ≡ xs ∷ []
 slice_split-past p [] h = refl
 slice_split-past p (x ∷ xs) h = elim (cases_Bool (p x)) [
-    | inl is ↦ let h1 = rw is at h in absurd (omega (arith, h1))
-    | inr not ↦ let h1 = rw not at h in let h2 : length xs ≤ position_or_len p xs = omega (arith, h1) in slice_split-cons_no p x xs not ∙ ap (onto_first x) (slice_split-past p xs h2)
-  ]
+  | inl is ↦ let h1 = rw is at h in absurd (omega (arith, h1))
+  | inr not ↦ let h1 = rw not at h in let h2 : length xs ≤ position_or_len p xs = omega (arith, h1) in slice_split-cons_no p x xs not ∙ ap (onto_first x) (slice_split-past p xs h2)
+]
 
 slice_split-none : (p : ℕ → Bool) (xs : List ℕ) → position p xs ≡ None → slice_split p xs ≡ xs ∷ []
 slice_split-none p xs is =
@@ -54,11 +54,13 @@ slice_split-none p xs is =
 -- the first line ends at the first line feed
 pub IsFirstLine-ended : (text : List ℕ) (n : ℕ) → position (λ b. b == 10) text ≡ Some n → (n < length text) × IsFirstLine (strip_carriage_return (take n text)) (drop (n + 1) text) text
 IsFirstLine-ended text n is =
-    let found = slice_split-found (λ b. b == 10) text n is in
-    (found.0, record {
-      first_of = ap lines_of_parts found.1 ∙ lines_of_parts-cons (take n text) (λ b. b == 10) (drop (n + 1) text);
-      shorter = omega (arith, length-drop (n + 1) text, found.0);
-    })
+    let found = slice_split-found (λ b. b == 10) text n is in (
+      found.0,
+      record {
+        first_of = ap lines_of_parts found.1 ∙ lines_of_parts-cons (take n text) (λ b. b == 10) (drop (n + 1) text);
+        shorter = omega (arith, length-drop (n + 1) text, found.0);
+      },
+    )
 
 last_line : (c : ℕ) (rest : List ℕ) → lines_of_parts ((c ∷ rest) ∷ []) ≡ (c ∷ rest) ∷ []
 last_line c rest =

@@ -1,5 +1,5 @@
 -- The reading of a text, one line at a time.
-use Rattle.std.proofs.Common.{◌≡◌, ◌+◌, ◌∷◌, ◌∙◌, ℕ, List, [], Result, Ok, Err, refl, ap, sym}
+use Rattle.std.proofs.Common.{◌≡◌, ◌+◌, ◌∙◌, ℕ, List, [], Result, Ok, Err, ap, sym}
 use Rattle.std.specs.Str.Lines.{lines}
 use Rattle.record_lang.specs.Causes.{and_then}
 use Rattle.record_lang.specs.Lines.{Tells}

@@ -1,5 +1,5 @@
 -- What the text of a pipeline means.
-use Rattle.std.specs.Prelude.{◌≡◌, ◌<◌, ◌+◌, ◌++◌, ⊤, ℕ, List, [], ◌∷◌, length, nat_lt, ◌==◌, is_some, unwrap_or, Option, Some, None, Result, Ok, Err, if◌then◌else◌}
+use Rattle.std.specs.Prelude.{◌≡◌, ◌<◌, ◌+◌, ◌++◌, ⊤, ℕ, List, [], ◌∷◌, length, nat_lt, ◌==◌, is_some, unwrap_or, Some, None, Result, Ok, Err, if◌then◌else◌}
 use Rattle.std.specs.Str.Lines.{lines}
 use Rattle.record_lang.specs.Causes.{and_then, cause_number}
 use Rattle.record_lang.specs.Lines.{line_of}
@@ -31,16 +31,16 @@ with_joint before joint = if is_some before.loose then Err TooMany else Ok (reco
 abbrev pub with_guard : SoFar → Guard → Result SoFar Cause
 with_guard before guard = if is_some before.guard then Err TooMany else Ok (record before { guard = Some guard })
 
--- what the lines say, with one more
+-- what the lines say, with what one more says
 abbrev pub with_line : SoFar → Line → Result SoFar Cause
 with_line before line.Nothing = Ok before
 with_line before (line.Stage next) = with_stage before next
 with_line before (line.Joint joint) = with_joint before joint
 with_line before (line.Guard guard) = with_guard before guard
 
--- what the lines say, with one more, unless that one is refused
+-- the same, of the line as it stands in the text
 abbrev pub with_text : SoFar → List ℕ → Result SoFar Cause
-with_text before text = and_then (line_of text) (λ next. with_line before next)
+with_text before text = and_then (line_of text) (with_line before)
 
 -- before the first line
 abbrev pub nothing_yet : SoFar

@@ -7,6 +7,10 @@ use Rattle.std.specs.Str.Parse.{digits_value}
 use Rattle.record_lang.specs.Numbers.{field_number}
 use Rattle.record_lang.specs.declared.causes.Cause.{Cause}
 use Rattle.record_lang.specs.declared.causes.Cause.TheVariants.{BadShape, BadNumber}
+use Rattle.record_lang.specs.declared.words.FullMode.{FullMode}
+use Rattle.record_lang.specs.declared.words.FullMode.TheVariants as mode
+use Rattle.record_lang.specs.declared.words.Operation.{Operation}
+use Rattle.record_lang.specs.declared.words.Operation.TheVariants as operation
 use Rattle.record_lang.specs.declared.pipelines.Relation.{Relation}
 use Rattle.record_lang.specs.declared.pipelines.Relation.TheVariants.{Less, AtMost, Equal, AtLeast, Greater}
 
@@ -53,4 +57,26 @@ relation_of word =
     else if bytes_eq word (codes "eq") then Ok Equal
     else if bytes_eq word (codes "ge") then Ok AtLeast
     else if bytes_eq word (codes "gt") then Ok Greater
+    else Err BadShape
+
+-- the operation that a stage names
+unfoldable pub operation_of : List ℕ → Result Operation Cause
+operation_of word =
+    if bytes_eq word (codes "keep") then Ok operation.Keep
+    else if bytes_eq word (codes "match") then Ok operation.Match
+    else if bytes_eq word (codes "add") then Ok operation.Add
+    else if bytes_eq word (codes "mul") then Ok operation.Mul
+    else if bytes_eq word (codes "sum") then Ok operation.Sum
+    else if bytes_eq word (codes "cat") then Ok operation.Cat
+    else if bytes_eq word (codes "copy") then Ok operation.Copy
+    else if bytes_eq word (codes "cut") then Ok operation.Cut
+    else Err BadShape
+
+-- the full mode that a joint names
+unfoldable pub mode_of : List ℕ → Result FullMode Cause
+mode_of word =
+    if bytes_eq word (codes "wait") then Ok mode.Wait
+    else if bytes_eq word (codes "dropnewest") then Ok mode.DropNewest
+    else if bytes_eq word (codes "dropoldest") then Ok mode.DropOldest
+    else if bytes_eq word (codes "dropwrite") then Ok mode.DropWrite
     else Err BadShape

@@ -63,11 +63,13 @@ impl Draft {
         }
         stages.push(stage)?;
         joints.push(loose.unwrap_or(DEFAULT_JOINT))?;
+        // the joint feeds this stage alone
+        let loose = None;
         Ok(Draft {
             stages,
             joints,
             guard,
-            loose: None,
+            loose,
         })
     }
 

@@ -1,13 +1,15 @@
 // What a line of a pipeline's text says.
 ghost use Rattle.std.specs.Prelude.{◌≡◌, map, IfOk};
 ghost use Rattle.std.specs.List.{list_all};
-ghost use Rattle.record_lang.specs.Lines.{bounded_joint, guard_of, is_printable, joint_of, keep_of, line_of, line_of_words, match_of, one_place, operation_of, place_and_operand, stage_of, two_places, IsBuildableLine, Tells};
+ghost use Rattle.record_lang.specs.Lines.{guard_of, is_printable, joint_of, joint_with, keep_of, line_of, line_of_words, match_of, one_place, place_and_operand, stage_of, stage_with, two_places, IsBuildableLine, Tells};
 ghost use Rattle.record_lang.specs.Pipelines.{IsBuildable, IsCapacity};
-ghost use Rattle.std.specs.Result.{ForOk};
 ghost use Rattle.record_lang.specs.declared.lines.LineFault.TheVariants as fault;
 
 use crate::causes::{Cause, both};
-use crate::words::{capacity_in, code_in, operand_in, place_in, relation_in, words_in};
+use crate::words::{
+    FullMode, Operation, capacity_in, code_in, mode_in, operand_in, operation_in, place_in,
+    relation_in, words_in,
+};
 use crate::{Field, Guard, Joint, Stage};
 use ho_base::NoMemory;
 use std::alloc::{AllocError, AllocFailed, Global};
@@ -120,34 +122,41 @@ fn match_in(alloc: Global, words: &[&[u8]]) -> Result<Stage, LineFault>
 }
 
 // An operation with its arguments.
-#[tactic(auto, unfolding(crate::specs::Lines::operation_of))]
-fn operation_in(alloc: Global, name: &[u8], arguments: &[&[u8]]) -> Result<Stage, LineFault>
-    ensures { Tells (operation_of name.now (map (λ w. w.now) arguments.now)) result }
+#[tactic(auto, unfolding(crate::specs::Lines::stage_with))]
+fn stage_with_in(
+    alloc: Global,
+    operation: Operation,
+    arguments: &[&[u8]],
+) -> Result<Stage, LineFault>
+    ensures { Tells (stage_with operation (map (λ w. w.now) arguments.now)) result }
 {
-    if name == b"keep".as_slice() {
-        Ok(keep_in(arguments)?)
-    } else if name == b"match".as_slice() {
-        match_in(alloc, arguments)
-    } else if name == b"add".as_slice() {
-        let (field, number) = place_and_operand_in(arguments)?;
-        Ok(Stage::Add { field, number })
-    } else if name == b"mul".as_slice() {
-        let (field, number) = place_and_operand_in(arguments)?;
-        Ok(Stage::Mul { field, number })
-    } else if name == b"sum".as_slice() {
-        let (left, right) = two_places_in(arguments)?;
-        Ok(Stage::Sum { left, right })
-    } else if name == b"cat".as_slice() {
-        let (left, right) = two_places_in(arguments)?;
-        Ok(Stage::Cat { left, right })
-    } else if name == b"copy".as_slice() {
-        let field = one_place_in(arguments)?;
-        Ok(Stage::Copy { field })
-    } else if name == b"cut".as_slice() {
-        let field = one_place_in(arguments)?;
-        Ok(Stage::Cut { field })
-    } else {
-        Err(LineFault::Refused(Cause::BadShape))
+    match operation {
+        Operation::Keep => Ok(keep_in(arguments)?),
+        Operation::Match => match_in(alloc, arguments),
+        Operation::Add => {
+            let (field, number) = place_and_operand_in(arguments)?;
+            Ok(Stage::Add { field, number })
+        }
+        Operation::Mul => {
+            let (field, number) = place_and_operand_in(arguments)?;
+            Ok(Stage::Mul { field, number })
+        }
+        Operation::Sum => {
+            let (left, right) = two_places_in(arguments)?;
+            Ok(Stage::Sum { left, right })
+        }
+        Operation::Cat => {
+            let (left, right) = two_places_in(arguments)?;
+            Ok(Stage::Cat { left, right })
+        }
+        Operation::Copy => {
+            let field = one_place_in(arguments)?;
+            Ok(Stage::Copy { field })
+        }
+        Operation::Cut => {
+            let field = one_place_in(arguments)?;
+            Ok(Stage::Cut { field })
+        }
     }
 }
 
@@ -157,26 +166,24 @@ fn stage_in(alloc: Global, words: &[&[u8]]) -> Result<Stage, LineFault>
 {
     match words {
         [] => Err(LineFault::Refused(Cause::BadShape)),
-        [name, arguments @ ..] => operation_in(alloc, name, arguments),
+        [name, arguments @ ..] => {
+            let operation = operation_in(name)?;
+            stage_with_in(alloc, operation, arguments)
+        }
     }
 }
 
 // A joint with this full mode and capacity.
-fn bounded_joint_in(mode: &[u8], capacity: Result<u32, Cause>) -> Result<Joint, Cause>
-    requires { ForOk capacity IsCapacity }
-    ensures joint { result ≡ bounded_joint mode.now capacity }
-    ensures buildable { IfOk result IsBuildable }
+fn joint_with_in(mode: FullMode, capacity: u32) -> Joint
+    requires { IsCapacity capacity }
+    ensures joint { result ≡ joint_with mode capacity }
+    ensures buildable { IsBuildable result }
 {
-    if mode == b"wait".as_slice() {
-        Ok(Joint::Wait(capacity?))
-    } else if mode == b"dropnewest".as_slice() {
-        Ok(Joint::DropNewest(capacity?))
-    } else if mode == b"dropoldest".as_slice() {
-        Ok(Joint::DropOldest(capacity?))
-    } else if mode == b"dropwrite".as_slice() {
-        Ok(Joint::DropWrite(capacity?))
-    } else {
-        Err(Cause::BadShape)
+    match mode {
+        FullMode::Wait => Joint::Wait(capacity),
+        FullMode::DropNewest => Joint::DropNewest(capacity),
+        FullMode::DropOldest => Joint::DropOldest(capacity),
+        FullMode::DropWrite => Joint::DropWrite(capacity),
     }
 }
 
@@ -187,14 +194,17 @@ fn joint_in(words: &[&[u8]]) -> Result<Joint, Cause>
     ensures buildable { IfOk result IsBuildable }
 {
     match words {
-        [mode] => {
-            if *mode == b"unbounded".as_slice() {
+        [name] => {
+            if *name == b"unbounded".as_slice() {
                 Ok(Joint::Unbounded)
             } else {
                 Err(Cause::BadShape)
             }
         }
-        [mode, capacity] => bounded_joint_in(mode, capacity_in(capacity)),
+        [name, capacity] => {
+            let (mode, capacity) = both(mode_in(name), capacity_in(capacity))?;
+            Ok(joint_with_in(mode, capacity))
+        }
         _ => Err(Cause::BadShape),
     }
 }

@@ -5,9 +5,9 @@ ghost use Rattle.std.specs.Str.Lines.{lines, strip_carriage_return};
 ghost use Rattle.record_lang.specs.Lines.{Tells};
 ghost use Rattle.record_lang.specs.Parsing.{fault_at, reading_of, with_text, whole, at_place, IsFirstLine, TellsPipeline};
 
+use crate::Pipeline;
 use crate::drafts::Draft;
 use crate::lines::{LineFault, line_in};
-use crate::Pipeline;
 use std::alloc::Global;
 
 /// Why a pipeline's text is not read.
@@ -17,10 +17,8 @@ pub enum SpecFault {
     /// end; and the cause: 1 a byte outside 0x20 to 0x7E; 2 a first word that begins no line; 3 a line
     /// or word that is not of its form; 4 digits whose value is out of range; 5 a ninth stage, a
     /// second guard or a second joint before a stage; 6 no stage; 7 a joint after the last stage.
-    Refused {
-        place: u64,
-        cause: u8,
-    },
+    Refused { place: u64, cause: u8 },
+    /// There was no memory for the text's stages, joints or words. Of the text it tells nothing.
     NoMemory,
 }
 
@@ -56,7 +54,8 @@ fn without_return(line: &[u8]) -> &[u8]
 
 // The first line, without its end, and what stands after it.
 fn first_line(text: &[u8]) -> Option<(&[u8], &[u8])>
-    ensures { MatchOption result (lines text.now ≡ []) (λ parts. IsFirstLine parts.0.now parts.1.now text.now) }
+    ensures { MatchOption result (lines text.now ≡ [])
+        (λ parts. IsFirstLine parts.0.now parts.1.now text.now) }
 {
     match end_of_line(text) {
         Some(end) => Some((without_return(&text[..end]), &text[end + 1..])),
@@ -87,8 +86,10 @@ fn finished(draft: Draft, place: u64) -> Result<Pipeline, SpecFault>
     }
 }
 
-/// Reads the text of a pipeline: gives its meaning, or its first refused line with the first cause.
-/// Of the text it keeps copies of the words that a stage or the guard compares with, and no more.
+/// Reads the text of a pipeline: its meaning, or its first refused line with the first cause.
+///
+/// Each byte is looked at a few times. Of the text the pipeline keeps copies of the words that a
+/// stage or the guard compares with, and no more.
 pub fn parse_pipeline(alloc: Global, bytes: &[u8]) -> Result<Pipeline, SpecFault>
     ensures { TellsPipeline (reading_of bytes.now) result }
 {
@@ -105,3 +106,6 @@ pub fn parse_pipeline(alloc: Global, bytes: &[u8]) -> Result<Pipeline, SpecFault
     }
     finished(draft, place)
 }
+
+#[cfg(test)]
+mod tests;

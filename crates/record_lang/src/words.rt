@@ -2,18 +2,47 @@
 ghost use Rattle.std.specs.Prelude.{◌≡◌, map, IfOk};
 ghost use Rattle.std.specs.Str.{all_ascii_digits};
 ghost use Rattle.record_lang.specs.Pipelines.{IsCapacity};
-ghost use Rattle.record_lang.specs.Words.{capacity_of, code_of, is_digits, number_within, operand_of, place_of, relation_of, words_of};
+ghost use Rattle.record_lang.specs.Words.{capacity_of, code_of, is_digits, mode_of, number_within, operand_of, operation_of, place_of, relation_of, words_of};
 
+use crate::Relation;
 use crate::causes::Cause;
 use crate::numbers::{magnitude, number_in};
-use crate::Relation;
 use ho_base::Fault;
 use std::alloc::{AllocError, Global};
 
+// The most digits of a number in a line. Any number of 64 bits has so many at most.
 const MAX_DIGITS: usize = 20;
+
+// The last place of a field that a line can name. Records have fewer fields.
 const LAST_PLACE: u64 = 99;
+
+// The largest capacity of a bounded channel.
 const MAX_CAPACITY: u64 = 65_536;
+
+// The largest number of a fault.
 const MAX_CODE: u64 = 65_535;
+
+/// What a stage does, by the word that names it.
+#[derive(Clone, Copy, Debug, PartialEq, Eq)]
+pub(crate) enum Operation {
+    Keep,
+    Match,
+    Add,
+    Mul,
+    Sum,
+    Cat,
+    Copy,
+    Cut,
+}
+
+/// What a full joint does with one more record. It is .NET's `BoundedChannelFullMode`.
+#[derive(Clone, Copy, Debug, PartialEq, Eq)]
+pub(crate) enum FullMode {
+    Wait,
+    DropNewest,
+    DropOldest,
+    DropWrite,
+}
 
 // The words of a line.
 pub(crate) fn words_in<'a>(alloc: Global, line: &'a [u8]) -> Result<Vec<&'a [u8]>, AllocError>
@@ -106,6 +135,36 @@ pub(crate) fn relation_in(word: &[u8]) -> Result<Relation, Cause>
         b"eq" => Ok(Relation::Equal),
         b"ge" => Ok(Relation::AtLeast),
         b"gt" => Ok(Relation::Greater),
+        _ => Err(Cause::BadShape),
+    }
+}
+
+#[tactic(auto, unfolding(crate::specs::Words::operation_of))]
+pub(crate) fn operation_in(word: &[u8]) -> Result<Operation, Cause>
+    ensures { result ≡ operation_of word.now }
+{
+    match word {
+        b"keep" => Ok(Operation::Keep),
+        b"match" => Ok(Operation::Match),
+        b"add" => Ok(Operation::Add),
+        b"mul" => Ok(Operation::Mul),
+        b"sum" => Ok(Operation::Sum),
+        b"cat" => Ok(Operation::Cat),
+        b"copy" => Ok(Operation::Copy),
+        b"cut" => Ok(Operation::Cut),
+        _ => Err(Cause::BadShape),
+    }
+}
+
+#[tactic(auto, unfolding(crate::specs::Words::mode_of))]
+pub(crate) fn mode_in(word: &[u8]) -> Result<FullMode, Cause>
+    ensures { result ≡ mode_of word.now }
+{
+    match word {
+        b"wait" => Ok(FullMode::Wait),
+        b"dropnewest" => Ok(FullMode::DropNewest),
+        b"dropoldest" => Ok(FullMode::DropOldest),
+        b"dropwrite" => Ok(FullMode::DropWrite),
         _ => Err(Cause::BadShape),
     }
 }
