@@ -10,6 +10,8 @@
 mod fields;
 mod numbers;
 mod pipelines;
+mod records;
 
 pub use fields::Field;
 pub use pipelines::{Guard, Joint, Pipeline, Relation, Stage};
+pub use records::{Record, Records};
