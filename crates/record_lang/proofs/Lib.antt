@@ -1,2 +1,6 @@
+pub mod FaultLemmas
+pub mod FieldLemmas
 pub mod NumberLemmas
+pub mod ReadingLemmas
 pub mod RecordLemmas
+pub mod RowLemmas

@@ -1,3 +1,5 @@
 pub mod Numbers
 pub mod Pipelines
+pub mod Reading
 pub mod Records
+pub mod Rows

@@ -11,7 +11,9 @@ mod fields;
 mod numbers;
 mod pipelines;
 mod records;
+mod rows;
 
 pub use fields::Field;
 pub use pipelines::{Guard, Joint, Pipeline, Relation, Stage};
 pub use records::{Record, Records};
+pub use rows::{InputFault, read_records};
