@@ -1,6 +1,7 @@
 pub mod FaultLemmas
 pub mod FieldLemmas
 pub mod NumberLemmas
+pub mod OutcomeLemmas
 pub mod ReadingLemmas
 pub mod RecordLemmas
 pub mod RowLemmas

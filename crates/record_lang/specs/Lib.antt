@@ -1,4 +1,5 @@
 pub mod Numbers
+pub mod Outcomes
 pub mod Pipelines
 pub mod Reading
 pub mod Records

@@ -9,11 +9,13 @@
 
 mod fields;
 mod numbers;
+mod outcomes;
 mod pipelines;
 mod records;
 mod rows;
 
 pub use fields::Field;
+pub use outcomes::{Outcome, apply_stage};
 pub use pipelines::{Guard, Joint, Pipeline, Relation, Stage};
 pub use records::{Record, Records};
 pub use rows::{InputFault, read_records};
