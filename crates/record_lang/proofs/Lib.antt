@@ -1,5 +1,6 @@
 pub mod FaultLemmas
 pub mod FieldLemmas
+pub mod LineLemmas
 pub mod NumberLemmas
 pub mod OutcomeLemmas
 pub mod ReadingLemmas

@@ -1,6 +1,10 @@
+pub mod Guards
+pub mod Lines
 pub mod Numbers
 pub mod Outcomes
 pub mod Pipelines
 pub mod Reading
 pub mod Records
 pub mod Rows
+pub mod Texts
+pub mod Writers

@@ -8,6 +8,7 @@
 #![tactic(auto)]
 
 mod fields;
+mod lines;
 mod numbers;
 mod outcomes;
 mod pipelines;
@@ -15,6 +16,7 @@ mod records;
 mod rows;
 
 pub use fields::Field;
+pub use lines::row_line;
 pub use outcomes::{Outcome, apply_stage};
 pub use pipelines::{Guard, Joint, Pipeline, Relation, Stage};
 pub use records::{Record, Records};
