@@ -1,8 +1,10 @@
 pub mod FaultLemmas
 pub mod FieldLemmas
+pub mod GuardLemmas
 pub mod LineLemmas
 pub mod NumberLemmas
 pub mod OutcomeLemmas
 pub mod ReadingLemmas
 pub mod RecordLemmas
 pub mod RowLemmas
+pub mod TextLemmas

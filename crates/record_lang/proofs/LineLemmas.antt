@@ -56,6 +56,7 @@ not-blank c word (next ∷ rest) = refl
 
 -- for a row whose first field is not empty
 pub csv_line : (fields : List (List ℕ)) → HasWord fields → Csv.row_text row_writer fields ≡ line_of fields
+unfolding line_of
 csv_line [] h = absurd h
 csv_line ([] ∷ rest) h = absurd h
 csv_line ((c ∷ word) ∷ rest) h =

@@ -6,5 +6,6 @@ pub mod Pipelines
 pub mod Reading
 pub mod Records
 pub mod Rows
+pub mod Tallies
 pub mod Texts
 pub mod Writers

@@ -16,7 +16,7 @@ abbrev pub field_text : List ℕ → List ℕ
 field_text field = if list_any calls_for_quotes field then 34 ∷ (doubled field ++ 34 ∷ []) else field
 
 -- a row: its fields joined by commas, and LF
-abbrev pub line_of : List (List ℕ) → List ℕ
+unfoldable pub line_of : List (List ℕ) → List ℕ
 line_of fields = join_with_byte 44 (map field_text fields) ++ 10 ∷ []
 
 -- the first field is not empty, as in each row of an output text

@@ -14,6 +14,7 @@ mod outcomes;
 mod pipelines;
 mod records;
 mod rows;
+mod texts;
 
 pub use fields::Field;
 pub use lines::row_line;
@@ -21,3 +22,4 @@ pub use outcomes::{Outcome, apply_stage};
 pub use pipelines::{Guard, Joint, Pipeline, Relation, Stage};
 pub use records::{Record, Records};
 pub use rows::{InputFault, read_records};
+pub use texts::one_thread_text;
