@@ -2,6 +2,7 @@ pub mod FaultLemmas
 pub mod FieldLemmas
 pub mod GuardLemmas
 pub mod LineLemmas
+pub mod MarkLemmas
 pub mod NumberLemmas
 pub mod OutcomeLemmas
 pub mod ReadingLemmas

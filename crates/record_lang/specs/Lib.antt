@@ -1,5 +1,6 @@
 pub mod Guards
 pub mod Lines
+pub mod Marks
 pub mod Numbers
 pub mod Outcomes
 pub mod Pipelines

@@ -20,6 +20,6 @@ pub use fields::Field;
 pub use lines::row_line;
 pub use outcomes::{Outcome, apply_stage};
 pub use pipelines::{Guard, Joint, Pipeline, Relation, Stage};
-pub use records::{Record, Records};
+pub use records::{Record, Records, marks_tell_records};
 pub use rows::{InputFault, read_records};
 pub use texts::one_thread_text;

@@ -1,10 +1,11 @@
 // Records: a number, and fields of bytes.
 ghost use Rattle.std.specs.Prelude.{◌≡◌, [], ◌∷◌, ◌++◌, ◌<◌, length, slice_set, OnOk, OnErr, IfOk, IfErr, option_map, slice_get};
 ghost use Rattle.std.specs.List.{remove};
+ghost use Rattle.record_lang.specs.Marks.{MarksTellRecords};
 ghost use Rattle.record_lang.specs.Records.{AreNumbered};
 
 use crate::Field;
-use ho_base::{NoMemory, Unpaid};
+use ho_base::{Item, NoMemory, Unpaid};
 use std::alloc::Global;
 use std::marker::Model;
 
@@ -99,6 +100,31 @@ impl Record {
         self.fields.remove(at as usize);
     }
 }
+
+/// A record's mark is its number, then the count of its fields, then for each field its length and
+/// its bytes. Its priority is its number.
+impl Item for Record {
+    ghost use Rattle.ho_base.specs.Marks.{number_of};
+    ghost use Rattle.record_lang.specs.Marks.{mark_of};
+
+    ghost mark = { mark_of };
+
+    ghost priority_of = { number_of };
+
+    fn number(&self) -> u64 {
+        self.number
+    }
+
+    fn priority(&self) -> u64 {
+        self.number
+    }
+}
+
+/// A law of marks: a record's mark tells the record whole, so that a step on records can be read
+/// on their marks. Does nothing.
+pub fn marks_tell_records()
+    ensures { MarksTellRecords }
+{}
 
 /// The rows of a record file, in order: row k has the number k.
 #[derive(Drop)]
