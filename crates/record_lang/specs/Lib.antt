@@ -1,10 +1,10 @@
 pub mod Guards
-pub mod Lines
 pub mod Marks
 pub mod Numbers
 pub mod Outcomes
+pub mod Output
 pub mod Pipelines
-pub mod Reading
+pub mod Readers
 pub mod Records
 pub mod Rows
 pub mod Tallies

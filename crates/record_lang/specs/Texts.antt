@@ -2,7 +2,7 @@
 use Rattle.std.specs.Prelude.{ℕ, List, [], ◌∷◌, ◌++◌, Bool, true, false, Option, Some, None, codes, decimal, map, length}
 use Rattle.std.specs.List.{flat_map, count_by}
 use Rattle.record_lang.specs.Guards.{fed_rows, stop_code}
-use Rattle.record_lang.specs.Lines.{line_of}
+use Rattle.record_lang.specs.Output.{line_of}
 use Rattle.record_lang.specs.Outcomes.{record_outcome}
 use Rattle.record_lang.specs.Pipelines.{Meaning}
 use Rattle.record_lang.specs.Records.{Row}

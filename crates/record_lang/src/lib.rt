@@ -8,18 +8,21 @@
 #![tactic(auto)]
 
 mod fields;
-mod lines;
 mod numbers;
 mod outcomes;
+mod output;
 mod pipelines;
 mod records;
 mod rows;
 mod texts;
 
 pub use fields::Field;
-pub use lines::row_line;
 pub use outcomes::{Outcome, apply_stage};
+pub use output::row_line;
 pub use pipelines::{Guard, Joint, Pipeline, Relation, Stage};
 pub use records::{Record, Records, marks_tell_records};
 pub use rows::{InputFault, read_records};
 pub use texts::one_thread_text;
+
+#[cfg(test)]
+mod tests;

@@ -2,7 +2,7 @@
 ghost use Rattle.std.specs.Prelude.{◌≡◌, ◌≤◌, ◌<◌, ◌∷◌, ◌++◌, [], ℕ, List, length, nat_lt, slice_index_or, IfOk, IfErr};
 ghost use Rattle.std.specs.List.{sum_by};
 ghost use Rattle.csv.specs.Records.{fields_of};
-ghost use Rattle.record_lang.specs.Reading.{GivesRow, HasRead, TakesRow};
+ghost use Rattle.record_lang.specs.Readers.{GivesRow, HasRead, TakesRow};
 ghost use Rattle.record_lang.specs.Rows.{TellsRows, fields_in, row_cause, row_cause_number, rows_of, width_of};
 
 use crate::{Field, Record, Records};

@@ -2,13 +2,13 @@
 ghost use Rattle.std.specs.Prelude.{map, ◌≡◌, [], ◌∷◌, ◌++◌, ◌≤◌, ◌<◌, ◌^◌, ◌-◌, List, ℕ, Some, None, codes, decimal, length, OnOk, IfOk};
 ghost use Rattle.std.specs.List.{position};
 ghost use Rattle.record_lang.specs.Guards.{fed_rows, meets, stop_code};
-ghost use Rattle.record_lang.specs.Lines.{line_of};
+ghost use Rattle.record_lang.specs.Output.{line_of};
 ghost use Rattle.record_lang.specs.Tallies.{TalliesOne, counts_in};
 ghost use Rattle.record_lang.specs.Texts.{counts_line, ending_line, refused_line, result_line, run_text};
 ghost use Rattle.record_lang.specs.Writers.{IsReady, lines_written};
 
-use crate::lines::{finish_lines, new_lines, push_bytes, push_number, put_row, start_row};
 use crate::outcomes::outcome_of;
+use crate::output::{finish_lines, new_lines, push_bytes, push_number, put_row, start_row};
 use crate::{Outcome, Pipeline, Record, Records};
 use csv::{ByteRecord, Writer};
 use ho_base::{Fault, NoMemory, Text};

@@ -1,4 +1,4 @@
-use Rattle.record_lang.proofs.ReadingLemmas.{gives_row}
+use Rattle.record_lang.proofs.ReaderLemmas.{gives_row}
 use Rattle.csv.specs.Records.{fields_of}
 use Rattle.record_lang.proofs.rows.next_row.Goals as goal
 

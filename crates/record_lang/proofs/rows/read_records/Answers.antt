@@ -4,7 +4,7 @@ use Rattle.csv.specs.Reading.{Reached, strip_bom}
 use Rattle.csv.specs.Records.{fields_of}
 use Rattle.record_lang.specs.Rows.{fields_in, rows_of}
 use Rattle.record_lang.proofs.FaultLemmas.{no_fault, numbered_more}
-use Rattle.record_lang.proofs.ReadingLemmas.{few, one_too_many, passed_on, row_kept, row_refused}
+use Rattle.record_lang.proofs.ReaderLemmas.{few, one_too_many, passed_on, row_kept, row_refused}
 use Rattle.record_lang.proofs.rows.read_records.Goals as goal
 
 pub rows-init : goal.rows-init

@@ -1,6 +1,6 @@
 use Rattle.std.proofs.Common.{◌∙◌, [], map, Bor, List, ℕ}
-use Rattle.record_lang.proofs.LineLemmas.{row_written}
-use Rattle.record_lang.proofs.lines.row_line.Goals as goal
+use Rattle.record_lang.proofs.OutputLemmas.{row_written}
+use Rattle.record_lang.proofs.output.row_line.Goals as goal
 
 pub returns : goal.returns
 returns c =

@@ -8,7 +8,7 @@ use Rattle.csv.specs.declared.reader.Reader.{Reader}
 use Rattle.csv.specs.declared.reader.Trim.TheVariants as trim
 use Rattle.csv.proofs.ReadFacts.{rows-end, rows-more}
 use Rattle.record_lang.specs.Records.{Row}
-use Rattle.record_lang.specs.Reading.{GivesRow, HasRead, TakesRow}
+use Rattle.record_lang.specs.Readers.{GivesRow, HasRead, TakesRow}
 use Rattle.record_lang.specs.Rows.{TellsRows, fields_in, row_fault, rows_of}
 use Rattle.record_lang.specs.declared.rows.InputFault.{InputFault}
 use Rattle.record_lang.specs.declared.rows.InputFault.TheVariants.{Refused, TooManyRows, NoMemory}

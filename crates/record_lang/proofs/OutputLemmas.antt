@@ -9,7 +9,7 @@ use Rattle.csv.specs.Quoting.{needs_byte}
 use Rattle.csv.specs.Writing as Csv
 use Rattle.csv.specs.declared.writer.QuoteStyle.TheVariants as style
 use Rattle.csv.specs.declared.writer.Writer.{Writer}
-use Rattle.record_lang.specs.Lines.{HasWord, calls_for_quotes, doubled, field_text, line_of}
+use Rattle.record_lang.specs.Output.{HasWord, calls_for_quotes, doubled, field_text, line_of}
 use Rattle.record_lang.specs.Writers.{IsReady, lines_written, row_writer}
 
 -- the tests of a byte, as csv makes them and as ours

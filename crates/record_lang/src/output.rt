@@ -1,7 +1,7 @@
 // Writes the rows of an output text. Each begins with a word.
 ghost use Rattle.std.specs.Prelude.{map, ◌≡◌, ◌<◌, [], ◌∷◌, ◌++◌, List, ℕ, Some, decimal, length, OnOk, IfOk};
 ghost use Rattle.csv.specs.Records.{fields_of, partial_of};
-ghost use Rattle.record_lang.specs.Lines.{HasWord, line_of};
+ghost use Rattle.record_lang.specs.Output.{HasWord, line_of};
 ghost use Rattle.record_lang.specs.Writers.{IsReady, lines_written};
 
 use csv::{ByteRecord, Writer, WriterBuilder};
