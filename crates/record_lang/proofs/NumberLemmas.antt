@@ -1,5 +1,5 @@
 -- The number that digits stand for, read one digit at a time.
-use Rattle.std.proofs.Common.{◌≡◌, ◌≤◌, ◌<◌, ◌+◌, suc, ◌&&◌, ◌-◌, ◌*◌, ltb, inl, inr, zero, add-one, ◌^◌, ◌∙◌, ℕ, List, [], ◌∷◌, length, take, get_or, Bool, true, false, Some, None, refl, ap, sym, arith}
+use Rattle.std.proofs.Common.{◌≡◌, ◌≤◌, ◌<◌, ◌+◌, suc, ◌&&◌, ◌-◌, ◌*◌, ltb, inl, inr, zero, add-one, ◌^◌, ◌∙◌, ℕ, List, [], ◌∷◌, length, take, get_or, Bool, true, false, Option, Some, None, ℤ, pos, negsuc, FitsSigned, w64, refl, ap, sym, arith}
 use Rattle.std.specs.Str.{all_ascii_digits}
 use Rattle.std.specs.Char.{is_ascii_digit, digit_value}
 use Rattle.std.specs.Str.Parse.{digits_value}
@@ -7,7 +7,8 @@ use Rattle.std.proofs.lemmas.Bool.{cases_Bool}
 use Rattle.std.proofs.lemmas.Str.Parse.{digits_value-take-le}
 use Rattle.std.proofs.lemmas.Int.Digits.{digits_value_more}
 use Rattle.std.proofs.lemmas.Bool.Decides.{nat_tests}
-use Rattle.record_lang.specs.Numbers.{below_64_bits, magnitude_of}
+use Rattle.std.specs.Prelude.{SomeIff}
+use Rattle.record_lang.specs.Numbers.{below_64_bits, magnitude_of, within_64_bits}
 
 and_first : (a b : Bool) → (a && b) ≡ true → a ≡ true
 and_first true b h = refl
@@ -66,3 +67,10 @@ value_more ds i h is =
     let range = ascii_range (get_or ds i 0) is in
     let same : digit_value (get_or ds i 0) ≡ get_or ds i 0 - 48 = grind (arith, nat_tests) in
     digits_value_more 10 ds i h ∙ ap (λ z. digits_value 10 (take i ds) * 10 + z) same
+
+-- a number that is there exactly where it has 64 bits
+pub fits_or_not : (found : Option ℤ) (z : ℤ) → SomeIff found (FitsSigned w64 z) z → found ≡ within_64_bits z
+fits_or_not None (pos n) h = let big : ltb n (2 ^ 63) ≡ false = grind (arith, nat_tests) in rw big refl
+fits_or_not None (negsuc n) h = let big : ltb n (2 ^ 63) ≡ false = grind (arith, nat_tests) in rw big refl
+fits_or_not (Some x) (pos n) h = let small : ltb n (2 ^ 63) ≡ true = grind (arith, nat_tests) in rw (small, h.1) refl
+fits_or_not (Some x) (negsuc n) h = let small : ltb n (2 ^ 63) ≡ true = grind (arith, nat_tests) in rw (small, h.1) refl

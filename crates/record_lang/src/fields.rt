@@ -1,5 +1,5 @@
 // The bytes of a field.
-ghost use Rattle.std.specs.Prelude.{◌≡◌, IfOk};
+ghost use Rattle.std.specs.Prelude.{◌≡◌, ◌++◌, IfOk};
 
 use ho_base::NoMemory;
 use std::alloc::Global;
@@ -25,6 +25,16 @@ impl Field {
         ensures { IfOk result (λ f. f ≡ bytes.now) }
     {
         let bytes = Vec::from_slice(alloc, bytes)?;
+        Ok(Field { bytes })
+    }
+
+    // A field of these bytes, one after the other.
+    pub(crate) fn joined(alloc: Global, first: &[u8], second: &[u8]) -> Result<Field, NoMemory>
+        ensures { IfOk result (λ f. f ≡ first.now ++ second.now) }
+    {
+        let mut bytes = Vec::with_capacity(alloc, first.len().saturating_add(second.len()))?;
+        bytes.extend_from_slice(first)?;
+        bytes.extend_from_slice(second)?;
         Ok(Field { bytes })
     }
 

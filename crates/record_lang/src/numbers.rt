@@ -1,6 +1,6 @@
 // The numbers that fields and words hold.
-ghost use Rattle.std.specs.Prelude.{◌≡◌, ◌≤◌, ◌<◌, ◌+◌, ◌*◌, ◌-◌, ◌^◌, SomeIff};
-ghost use Rattle.record_lang.specs.Numbers.{below_64_bits, field_number, magnitude_of};
+ghost use Rattle.std.specs.Prelude.{◌≡◌, ◌≤◌, ◌<◌, ◌+◌, ◌*◌, ◌-◌, ◌^◌, ◌*ℤ◌, SomeIff};
+ghost use Rattle.record_lang.specs.Numbers.{below_64_bits, field_number, magnitude_of, within_64_bits};
 
 // The number with one more digit.
 fn next_value(value: u64, digit: u8) -> Option<u64>
@@ -39,4 +39,11 @@ pub(crate) fn number_in(field: &[u8]) -> Option<i64>
         [b'-', digits @ ..] => 0i64.checked_sub_unsigned(magnitude(digits)?),
         _ => 0i64.checked_add_unsigned(magnitude(field)?),
     }
+}
+
+// The product of two numbers, if it has 64 bits.
+pub(crate) fn product(left: i64, right: i64) -> Option<i64>
+    ensures { result ≡ within_64_bits (left *ℤ right) }
+{
+    left.checked_mul(right)
 }

@@ -1,8 +1,9 @@
 // What a pipeline's text means.
 ghost use Rattle.std.specs.Prelude.{◌≡◌, ◌≤◌, ◌-◌, length, slice_get, Some, option_map};
+ghost use Rattle.record_lang.specs.Guards.{is_stopped, is_text, meets};
 ghost use Rattle.record_lang.specs.Pipelines.{HasJoints, IsBuildable};
 
-use crate::Field;
+use crate::{Field, Record, Records};
 use ho_base::Fault;
 use std::marker::Model;
 
@@ -152,5 +153,35 @@ impl Pipeline {
         ensures { option_map (λ guard. guard.now) result ≡ self.now.guard }
     {
         self.guard.as_ref()
+    }
+
+    /// Whether there is a guard, and the record meets it. A record without the guard's field does
+    /// not meet it.
+    pub fn meets_guard(&self, row: &Record) -> bool
+        ensures { result ≡ meets self.now.guard row.now }
+    {
+        match &self.guard {
+            None => false,
+            Some(guard) => guard.is_met(row),
+        }
+    }
+
+    /// Whether some record meets the guard, so that a run ends with the guard's code.
+    pub fn stops(&self, records: &Records) -> bool
+        ensures { result ≡ is_stopped self.now.guard records.now }
+    {
+        records.as_slice().iter().any(|row| self.meets_guard(row))
+    }
+}
+
+impl Guard {
+    // Whether the record has the field, and it equals the text.
+    fn is_met(&self, row: &Record) -> bool
+        ensures { result ≡ is_text self.now.text (slice_get row.now.fields self.now.field) }
+    {
+        match row.field(self.field) {
+            None => false,
+            Some(field) => field.bytes() == self.text.bytes(),
+        }
     }
 }
