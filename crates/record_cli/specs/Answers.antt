@@ -3,8 +3,8 @@ use Rattle.std.specs.Prelude.{◌≡◌, ◌≤◌, ◌∷◌, [], ℕ, List, �
 use Rattle.ho_io.specs.Whole.{TookFirst}
 use Rattle.record_cli.specs.Commands.{command_of}
 use Rattle.record_cli.specs.Plain.{Answer, not_built, plain_answer, usage}
-use Rattle.record_cli.specs.declared.answers.Computed.{Computed}
-use Rattle.record_cli.specs.declared.answers.Computed.TheVariants as computed
+use Rattle.record_cli.specs.declared.computed.Computed.{Computed}
+use Rattle.record_cli.specs.declared.computed.Computed.TheVariants as computed
 use Rattle.record_cli.specs.declared.commands.Command.{Command}
 use Rattle.record_cli.specs.declared.commands.Command.TheVariants.{Plain}
 use Rattle.record_cli.specs.declared.status.Status.{Status}

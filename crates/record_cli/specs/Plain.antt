@@ -1,9 +1,12 @@
 -- What `plain` answers: a status, and the text that is written with it.
 use Rattle.std.specs.Prelude.{ℕ, List, [], ◌∷◌, length, nat_le, codes, decimal, Option, Some, None, Result, Ok, Err, if◌then◌else◌}
+use Rattle.record_lang.specs.Guards.{is_stopped}
+use Rattle.record_lang.specs.Output.{line_of}
 use Rattle.record_lang.specs.Parsing.{reading_of}
 use Rattle.record_lang.specs.Pipelines.{Meaning}
+use Rattle.record_lang.specs.Records.{Row}
 use Rattle.record_lang.specs.Rows.{numbered_from, row_fault, rows_of}
-use Rattle.record_lang.specs.Texts.{line_of, one_thread_bytes, stops}
+use Rattle.record_lang.specs.Texts.{run_text}
 use Rattle.record_lang.specs.declared.parsing.SpecFault.{SpecFault}
 use Rattle.record_lang.specs.declared.parsing.SpecFault.TheVariants as spec
 use Rattle.record_lang.specs.declared.rows.InputFault.{InputFault}
@@ -37,15 +40,15 @@ refused_place name place cause = one_row status.SpecRefused (codes "spec" ∷ na
 abbrev pub refused_row : ℕ → ℕ → Answer
 refused_row row cause = one_row status.InputRefused (codes "input" ∷ decimal row ∷ decimal cause ∷ [])
 
--- the one-thread text of a pipeline and the rows of a file
-abbrev pub text_answer : Meaning → List (List (List ℕ)) → Answer
+-- the one-thread text of a pipeline and records, and whether the guard was met
+abbrev pub text_answer : Meaning → List Row → Answer
 text_answer pipeline rows =
     record {
-      status = if stops pipeline (numbered_from 0 rows) then status.Ended else status.Done;
-      text = one_thread_bytes pipeline (numbered_from 0 rows) }
+      status = if is_stopped pipeline.guard rows then status.Ended else status.Done;
+      text = run_text pipeline rows }
 
 abbrev pub rows_answer : List ℕ → Meaning → List (List (List ℕ)) → Option InputFault → Answer
-rows_answer name pipeline rows None = text_answer pipeline rows
+rows_answer name pipeline rows None = text_answer pipeline (numbered_from 0 rows)
 rows_answer name pipeline rows (Some (input.Refused row cause)) = refused_row row cause
 rows_answer name pipeline rows (Some other) = too_large name
 

@@ -7,8 +7,9 @@
 //! files and output.
 #![tactic(auto)]
 
-mod answers;
+mod answer;
 mod commands;
+mod computed;
 mod plain;
 mod status;
 mod top;
@@ -55,6 +56,9 @@ fn main(rt: HostRuntime) -> ExitCode {
     let status = top::run_plain(rt.alloc(), &words, &mut shelf, &mut out);
     ExitCode::from(status.number())
 }
+
+
+
 
 #[cfg(test)]
 mod tests;

@@ -1,12 +1,11 @@
 // The command `plain`: a pipeline's file and a record file become the one-thread text.
-ghost use Rattle.std.specs.Prelude.{◌≡◌, ◌≤◌, length, IfSome};
+ghost use Rattle.std.specs.Prelude.{◌≡◌, ◌≤◌, length, IfSome, Some};
 ghost use Rattle.ho_io.specs.Causes.{Rose};
 ghost use Rattle.record_cli.specs.Answers.{IsComputed};
-ghost use Rattle.record_cli.specs.Plain.{plain_answer, records_answer, rows_answer, text_answer};
-ghost use Rattle.record_lang.specs.Rows.{numbered_from, row_fault, rows_of};
-ghost use Rattle.std.specs.Prelude.{Some};
+ghost use Rattle.record_cli.specs.Plain.{pipe_answer, plain_answer, records_answer, text_answer};
 
-use crate::answers::{Answer, Computed, missing, refused_place, refused_row, too_large};
+use crate::answer::Answer;
+use crate::computed::{Computed, missing, refused_place, refused_row, too_large};
 use crate::status::Status;
 use ho_base::Word;
 use ho_io::{Loaded, Shelf, fetch_whole};
@@ -21,7 +20,7 @@ const MAX_RECORDS: usize = 16_777_216;
 
 // The one-thread text of some records.
 fn with_rows(alloc: Global, pipeline: &Pipeline, records: Records) -> Computed
-    ensures computed { IsComputed (rows_text pipeline.now records) result }
+    ensures computed { IsComputed (text_answer pipeline.now records) result }
     ensures unread { result ≡ Computed.ReadFault → ⊥ }
 {
     let status = if pipeline.stops(&records) {

@@ -6,8 +6,8 @@ ghost use Rattle.record_lang.specs.Words.{capacity_of, code_of, is_digits, mode_
 
 use crate::Relation;
 use crate::causes::Cause;
-use crate::numbers::{magnitude, number_in};
-use ho_base::Fault;
+use crate::numbers::number_in;
+use ho_base::{Fault, magnitude};
 use std::alloc::{AllocError, Global};
 
 // The most digits of a number in a line. Any number of 64 bits has so many at most.

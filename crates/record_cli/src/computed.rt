@@ -1,23 +1,16 @@
-// What is to be answered, before anything is written.
+// What a command answers, before anything is written.
 ghost use Rattle.std.specs.Prelude.{◌≡◌, ◌∷◌, [], map, IsTrue};
-ghost use Rattle.record_lang.specs.Texts.{line_of};
+ghost use Rattle.record_lang.specs.Output.{HasWord, line_of};
 ghost use Rattle.record_cli.specs.Answers.{IsComputed};
 ghost use Rattle.record_cli.specs.Plain.{missing, not_built, refused_place, refused_row, too_large, usage};
 ghost use Rattle.record_cli.specs.Statuses.{is_written};
 
 use crate::status::Status;
-use ho_base::{Text, Word};
+use crate::answer::Answer;
+use ho_base::Word;
 use itoa::Buffer;
 use record_lang::row_line;
 use std::alloc::Global;
-
-/// A status, and the whole text that is to be written with it.
-#[derive(Drop)]
-pub(crate) struct Answer {
-    pub status: Status,
-    pub text: Text,
-    ghost written: { IsTrue (is_written status) },
-}
 
 /// What came of a command before anything is written.
 #[derive(Drop)]
@@ -29,7 +22,8 @@ pub(crate) enum Computed {
 
 // An answer of one row.
 fn one_row(alloc: Global, status: Status, fields: &[&[u8]]) -> Computed
-    requires { IsTrue (is_written status) }
+    requires status { IsTrue (is_written status) }
+    requires word { HasWord (map (λ f. f.now) fields.now) }
     ensures computed { IsComputed (record { status = status; text = line_of (map (λ f. f.now) fields.now) }) result }
     ensures unread { result ≡ Computed.ReadFault → ⊥ }
 {
