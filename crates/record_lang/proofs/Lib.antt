@@ -1,11 +1,13 @@
 pub mod FaultLemmas
 pub mod FieldLemmas
 pub mod GuardLemmas
+pub mod LineLemmas
 pub mod MarkLemmas
 pub mod NumberLemmas
 pub mod OutcomeLemmas
 pub mod OutputLemmas
 pub mod ReaderLemmas
+pub mod ReadingLemmas
 pub mod RecordLemmas
 pub mod RowLemmas
 pub mod TextLemmas

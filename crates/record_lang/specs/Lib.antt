@@ -1,12 +1,17 @@
+pub mod Causes
 pub mod Guards
+pub mod Lines
 pub mod Marks
 pub mod Numbers
 pub mod Outcomes
 pub mod Output
+pub mod Parsing
 pub mod Pipelines
 pub mod Readers
 pub mod Records
 pub mod Rows
+pub mod SoFar
 pub mod Tallies
 pub mod Texts
+pub mod Words
 pub mod Writers

@@ -7,18 +7,24 @@
 //! fed records. It stands on `ho_base`, on `csv` for rows and on `itoa` for digits.
 #![tactic(auto)]
 
+mod causes;
+mod drafts;
 mod fields;
+mod lines;
 mod numbers;
 mod outcomes;
 mod output;
+mod parsing;
 mod pipelines;
 mod records;
 mod rows;
 mod texts;
+mod words;
 
 pub use fields::Field;
 pub use outcomes::{Outcome, apply_stage};
 pub use output::row_line;
+pub use parsing::{SpecFault, parse_pipeline};
 pub use pipelines::{Guard, Joint, Pipeline, Relation, Stage};
 pub use records::{Record, Records, marks_tell_records};
 pub use rows::{InputFault, read_records};
