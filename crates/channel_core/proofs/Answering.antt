@@ -1,5 +1,5 @@
 -- A wait is answered in its place.
-use Rattle.std.proofs.Common.{◌≡◌, ℕ, List, length, map, ◌<◌, set, get_or, sym, ◌∙◌, ap}
+use Rattle.std.proofs.Common.{◌≡◌, ℕ, List, length, ◌<◌, set, get_or, sym, ◌∙◌, ap}
 use Rattle.std.proofs.lemmas.List.{map-set, get_or-map}
 use Rattle.ho_base.specs.Marks.{Mark}
 use Rattle.ho_model.specs.Channel as channel

@@ -1,5 +1,5 @@
 -- Counts of begins.
-use Rattle.std.proofs.Common.{◌≡◌, ℕ, zero, suc, ◌+◌, ◌≤◌, ◌<◌, List, [], ◌∷◌, length, get_or, set, replicate, arith, rules}
+use Rattle.std.proofs.Common.{◌≡◌, ℕ, zero, suc, ◌≤◌, List, get_or, replicate, arith}
 use Rattle.std.specs.Prelude.{slice_index, Option, None}
 use Rattle.ho_model.specs.declared.objects.Mode.{Mode}
 use Rattle.ho_model.specs.declared.objects.Mode.TheVariants.{Wait}

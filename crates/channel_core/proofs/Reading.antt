@@ -1,10 +1,7 @@
 -- The rows of a read, with what each call of the code leaves as a premise.
-use Rattle.std.proofs.Common.{◌≡◌, ℕ, ◌+◌, ◌<◌, ◌≤◌, List, [], ◌∷◌, ◌++◌, length, Bool, true, false, sym, ◌∙◌, ap, arith, refl, slice_index_or}
-use Rattle.std.specs.Prelude.{Option, Some, None, remove, nat_le, is_some, unwrap_or, cond}
+use Rattle.std.proofs.Common.{◌≡◌, ℕ, ◌<◌, List, length, Bool, true, sym}
+use Rattle.std.specs.Prelude.{Some}
 use Rattle.std.proofs.lemmas.List.Quantifiers.{position-Some}
-use Rattle.ho_base.specs.Marks.{Mark}
-use Rattle.ho_model.specs.declared.marks.ReplyMark.TheVariants.{Item, Done, Ready}
-use Rattle.ho_model.specs.declared.marks.ReplyMark.{ReplyMark}
 use Rattle.ho_model.specs.Channel as channel
 
 -- the oldest wait of a kind is of that kind
@@ -13,4 +10,3 @@ oldest_is kind ws place h = (position-Some (λ w. kind w.standing) ws place chan
 
 pub oldest_below : (kind : channel.Standing → Bool) (ws : List channel.Waiter) (place : ℕ) → Some place ≡ channel.oldest kind ws → place < length ws
 oldest_below kind ws place h = (position-Some (λ w. kind w.standing) ws place channel.no_waiter (sym h)).0
-

@@ -3,7 +3,7 @@
 use ho_base::Fault;
 
 /// A call on a channel. The names in parentheses are .NET's.
-#[derive(Debug, Drop)]
+#[derive(Debug, PartialEq, Eq, Drop)]
 pub enum ChannelCall<T> {
     /// Writes an item, if that needs no wait (`ChannelWriter<T>.TryWrite`).
     Write(T),
@@ -32,7 +32,7 @@ pub enum ChannelCall<T> {
 }
 
 /// What a channel answers. An item that is not kept is handed back.
-#[derive(Debug, Drop)]
+#[derive(Debug, PartialEq, Eq, Drop)]
 pub enum ChannelReply<T> {
     /// The item is in the buffer, or was handed to a read that waited.
     Done,

@@ -100,8 +100,12 @@ impl<T: Marked, S: ItemStore<T>> Core<T, S> {
         match self.mode {
             Mode::Wait => Tried::Wait(item),
             Mode::DropWrite => Tried::Answer(ChannelReply::Dropped(item)),
-            Mode::DropOldest => Tried::Answer(ChannelReply::Dropped(self.store.replace_oldest(item))),
-            Mode::DropNewest => Tried::Answer(ChannelReply::Dropped(self.store.replace_newest(item))),
+            Mode::DropOldest => Tried::Answer(ChannelReply::Dropped(
+                self.store.replace_oldest(item),
+            )),
+            Mode::DropNewest => Tried::Answer(ChannelReply::Dropped(
+                self.store.replace_newest(item),
+            )),
         }
     }
 

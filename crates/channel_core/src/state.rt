@@ -34,10 +34,10 @@ impl<T: Item> Model for ChannelState<T> {
     ghost Value = { Kept };
 
     ghost view = { λ s. record {
-        object = object_with (buffer_capacity s.core.store) s.core.mode;
-        callers = s.callers;
-        steps = s.steps;
-        channel = channel_of T.mark (buffer_items T.mark) s.core;
+      object = object_with (buffer_capacity s.core.store) s.core.mode;
+      callers = s.callers;
+      steps = s.steps;
+      channel = channel_of T.mark (buffer_items T.mark) s.core;
     } };
 
     ghost invariant = { λ s. IsSound s.callers s.steps 0 s.core.begins (buffer_capacity s.core.store) s.core.mode };
@@ -79,6 +79,7 @@ impl<T: Item> ChannelState<T> {
 
 impl<T: Item> Machine for ChannelState<T> {
     type Call = ChannelCall<T>;
+
     type Reply = ChannelReply<T>;
 
     ghost object = { λ s. s.object };

@@ -39,7 +39,9 @@ impl<T: Marked, S: ItemStore<T>> Core<T, S> {
             ChannelCall::Write(item) => match self.write(item) {
                 Tried::Answer(reply) => Ok(reply),
                 Tried::Wait(item) => Ok(ChannelReply::Full(item)),
-                Tried::NoMemory(back) => Err(Unpaid { back: ChannelCall::Write(back) }),
+                Tried::NoMemory(back) => Err(Unpaid {
+                    back: ChannelCall::Write(back),
+                }),
             },
             ChannelCall::Read => match self.read() {
                 Tried::Answer(reply) => Ok(reply),
@@ -50,19 +52,27 @@ impl<T: Marked, S: ItemStore<T>> Core<T, S> {
             ChannelCall::Count => Ok(ChannelReply::Count(self.store.len() as u64)),
             ChannelCall::BeginWrite(item) => match self.begin_write(caller, item) {
                 Ok(reply) => Ok(reply),
-                Err(item) => Err(Unpaid { back: ChannelCall::BeginWrite(item) }),
+                Err(item) => Err(Unpaid {
+                    back: ChannelCall::BeginWrite(item),
+                }),
             },
             ChannelCall::BeginRead => match self.begin_read(caller) {
                 Ok(reply) => Ok(reply),
-                Err(_) => Err(Unpaid { back: ChannelCall::BeginRead }),
+                Err(_) => Err(Unpaid {
+                    back: ChannelCall::BeginRead,
+                }),
             },
             ChannelCall::BeginLookWrite => match self.begin_look_for_room(caller) {
                 Ok(reply) => Ok(reply),
-                Err(_) => Err(Unpaid { back: ChannelCall::BeginLookWrite }),
+                Err(_) => Err(Unpaid {
+                    back: ChannelCall::BeginLookWrite,
+                }),
             },
             ChannelCall::BeginLookRead => match self.begin_look_for_item(caller) {
                 Ok(reply) => Ok(reply),
-                Err(_) => Err(Unpaid { back: ChannelCall::BeginLookRead }),
+                Err(_) => Err(Unpaid {
+                    back: ChannelCall::BeginLookRead,
+                }),
             },
             ChannelCall::Poll(number) => Ok(self.poll(caller, number)),
             ChannelCall::Cancel(number) => Ok(self.cancel(caller, number)),

@@ -1,4 +1,4 @@
-use Rattle.std.proofs.Common.{◌≡◌, ◌++◌, map, take, drop, true, length}
+use Rattle.std.proofs.Common.{◌≡◌, ◌++◌, map, take, drop, true}
 use Rattle.ho_model.specs.Channel as channel
 use Rattle.ho_model.specs.declared.marks.ReplyMark.TheVariants as replymark
 use Rattle.channel_core.specs.Marks.{kind_of, waits_mark}

@@ -1,4 +1,4 @@
-use Rattle.std.proofs.Common.{arith, true}
+use Rattle.std.proofs.Common.{arith}
 use Rattle.ho_model.specs.Channel as channel
 use Rattle.channel_core.specs.Marks.{fault_number, waiter_mark}
 use Rattle.channel_core.proofs.Places.{mapped_more}

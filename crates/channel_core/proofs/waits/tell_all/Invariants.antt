@@ -1,4 +1,4 @@
-use Rattle.std.proofs.Common.{◌≡◌, ◌++◌, map, take, drop, true, length}
+use Rattle.std.proofs.Common.{◌≡◌, ◌++◌, map, take, drop}
 use Rattle.ho_model.specs.Channel as channel
 use Rattle.channel_core.specs.Marks.{fault_number, waits_mark}
 use Rattle.channel_core.proofs.waits.tell_all.Given as goal
