@@ -1,0 +1,3 @@
+pub mod Twin
+pub mod Reached
+pub mod Laws
