@@ -1,9 +1,8 @@
 -- What holds of every state that a history reaches.
-use Rattle.std.specs.Prelude.{◌≡◌, ℕ, ◌<◌, ◌↔◌, List, [], ◌∷◌, Bool, true, false, Option, Some, None, option_and_then, is_some, length, ◌==◌, nat_lt, if◌then◌else◌}
-use Rattle.std.specs.Option.{option_map}
+use Rattle.std.specs.Prelude.{◌≡◌, ℕ, ◌<◌, ◌↔◌, List, [], ◌∷◌, Bool, true, false, Option, Some, None, is_some, length, ◌==◌}
 use Rattle.std.specs.List.{AllByRecursion}
 use Rattle.std.proofs.Common.{refl, ap, sym, ◌∙◌, subst, arith}
-use Rattle.std.proofs.lemmas.Bool.{and_parts, eqb-true, both_ways, ltb-true}
+use Rattle.std.proofs.lemmas.Bool.{and_parts, eqb-true, both_ways}
 use Rattle.ho_model.specs.declared.objects.Object.{Object}
 use Rattle.ho_model.specs.declared.objects.Object.TheVariants as object
 use Rattle.ho_base.specs.Marks.{Mark}
@@ -11,45 +10,74 @@ use Rattle.ho_model.specs.declared.marks.ReplyMark.{ReplyMark}
 use Rattle.ho_model.specs.declared.marks.EntryMark.{EntryMark}
 use Rattle.ho_model.specs.declared.marks.CallMark.TheVariants.{Completed}
 use Rattle.ho_model.specs.declared.marks.ReplyMark.TheVariants.{Flag}
-use Rattle.ho_model.specs.Entries.{same_reply}
-use Rattle.ho_model.specs.Answers.{accepted}
 use Rattle.ho_model.specs.Channel.{Channel, Kind, Outcome, Standing, WantsItem, WantsRoom, LooksForItem, LooksForRoom, Answered, Waiter, is_completed, is_waiting, channel_answer, empty_channel}
-use Rattle.ho_model.specs.Objects.{State, ChannelState, channel_step, unbounded, bounded, prioritized, stepped, most_callers}
+use Rattle.ho_model.specs.Objects.{State, ChannelState, object_step, channel_step, stepped, most_callers, empty_state}
+use Rattle.ho_model.proofs.Folds.{and_then_some}
+use Rattle.ho_model.proofs.Replies.{channel_entry_is, accepted_caller}
 use Rattle.ho_model.specs.Histories.{fold_from, state_after}
 use Rattle.channel_laws.specs.Reached.{IsSettled, IsReached, HasRoom, StaysReached, IsChannelObject, Reaches, kind_in}
 use Rattle.channel_laws.proofs.Settling.{steps_stay, empty_is_reached}
 
-accepted_step : (kind : Kind) (after : State → Option State) (t x : Channel) (reply said : ReplyMark) (k : Bool) → same_reply said reply ≡ k → IsReached kind x → (IsReached kind x → after (ChannelState x) ≡ Some (ChannelState t) → IsReached kind t) → option_and_then after (option_map ChannelState (accepted (Some (said, x)) reply)) ≡ Some (ChannelState t) → IsReached kind t
-accepted_step kind after t x reply said true e was more h = more was (simp e at h)
-accepted_step kind after t x reply said false e was more h = let f : None ≡ Some (ChannelState t) = simp e at h in cc
+-- an entry of a channel object is one of its channel
+pub kind_is : (priority : Mark → ℕ) (o : Object) → IsChannelObject o → (s : Channel) (e : EntryMark) → stepped priority o (ChannelState s) e ≡ channel_step (kind_in priority o) (ChannelState s) e
+kind_is priority object.Unbounded room s e = refl
+kind_is priority (object.Bounded capacity mode) room s e = refl
+kind_is priority object.Prioritized room s e = refl
+kind_is priority (object.Queue room' first) room s e = absurd room
+kind_is priority object.Bag room s e = absurd room
+kind_is priority (object.Blocking store bound) room s e = absurd room
 
-run_step : (kind : Kind) (after : State → Option State) (t : Channel) (reply : ReplyMark) (a : Option Outcome) → StaysReached kind a → ((x : Channel) → IsReached kind x → after (ChannelState x) ≡ Some (ChannelState t) → IsReached kind t) → option_and_then after (option_map ChannelState (accepted a reply)) ≡ Some (ChannelState t) → IsReached kind t
-run_step kind after t reply None stays more h = let f : None ≡ Some (ChannelState t) = h in cc
-run_step kind after t reply (Some o) stays more h = accepted_step kind after t o.1 reply o.0 (same_reply o.0 reply) refl stays (more o.1) h
+has_room : (priority : Mark → ℕ) (o : Object) → IsChannelObject o → HasRoom (kind_in priority o).capacity
+has_room priority object.Unbounded room = tt
+has_room priority (object.Bounded capacity mode) room = room
+has_room priority object.Prioritized room = tt
+has_room priority (object.Queue room' first) room = absurd room
+has_room priority object.Bag room = absurd room
+has_room priority (object.Blocking store bound) room = absurd room
 
-caller_step : (kind : Kind) (after : State → Option State) (s t : Channel) (e : EntryMark) (k : Bool) → nat_lt e.caller most_callers ≡ k → (e.caller < most_callers → option_and_then after (channel_step kind (ChannelState s) e) ≡ Some (ChannelState t) → IsReached kind t)
-    → option_and_then after (if nat_lt e.caller most_callers then channel_step kind (ChannelState s) e else None) ≡ Some (ChannelState t) → IsReached kind t
-caller_step kind after s t e true is more h = more (ltb-true e.caller most_callers is) (simp is at h)
-caller_step kind after s t e false is more h = let f : None ≡ Some (ChannelState t) = simp is at h in cc
+pub starts_empty : (o : Object) → IsChannelObject o → empty_state o ≡ ChannelState empty_channel
+starts_empty object.Unbounded room = refl
+starts_empty (object.Bounded capacity mode) room = refl
+starts_empty object.Prioritized room = refl
+starts_empty (object.Queue room' first) room = absurd room
+starts_empty object.Bag room = absurd room
+starts_empty (object.Blocking store bound) room = absurd room
 
-runs_stay : (priority : Mark → ℕ) (o : Object) (kind : Kind) → HasRoom kind.capacity → ((s : Channel) (e : EntryMark) → stepped priority o (ChannelState s) e ≡ channel_step kind (ChannelState s) e) → (es : List EntryMark) → (s t : Channel) → IsReached kind s → fold_from priority o (ChannelState s) es ≡ Some (ChannelState t) → IsReached kind t
-runs_stay priority o kind room is [] s t was h = let e : s ≡ t = cc in subst (λ x. IsReached kind x) e was
-runs_stay priority o kind room is (e ∷ es) s t was h =
-    caller_step kind (λ next. fold_from priority o next es) s t e (nat_lt e.caller most_callers) refl
-    (λ below k.
-    run_step kind (λ next. fold_from priority o next es) t e.reply (channel_answer kind s e.caller e.call)
-    (steps_stay kind s e.caller e.call room below was)
-    (λ x now j. runs_stay priority o kind room is es x t now j)
-    k)
-    (ap (λ n. option_and_then (λ next. fold_from priority o next es) (if nat_lt e.caller most_callers then n else None)) (sym (is s e)) ∙ h)
+-- an entry that a channel object accepts: its caller, the channel after it, and the channel's answer
+pub record IsEntry (kind : Kind) (s : Channel) (e : EntryMark) (t : State) : Type 0 where
+  pub caller : e.caller < most_callers
+  pub after : Channel
+  pub state : t ≡ ChannelState after
+  pub answer : ◌≡◌ {A = Option Outcome} (channel_answer kind s e.caller e.call) (Some (e.reply, after))
 
-pub histories_reached : (priority : Mark → ℕ) (o : Object) (history : List EntryMark) (s : Channel) → IsChannelObject o → state_after priority o history ≡ Some (ChannelState s) → IsReached (kind_in priority o) s
-histories_reached priority object.Unbounded history s room h = runs_stay priority object.Unbounded unbounded tt (λ s e. refl) history empty_channel s (empty_is_reached unbounded) h
-histories_reached priority (object.Bounded capacity mode) history s room h = runs_stay priority (object.Bounded capacity mode) (bounded capacity mode) room (λ s e. refl) history empty_channel s (empty_is_reached (bounded capacity mode)) h
-histories_reached priority object.Prioritized history s room h = runs_stay priority object.Prioritized (prioritized priority) tt (λ s e. refl) history empty_channel s (empty_is_reached (prioritized priority)) h
-histories_reached priority (object.Queue room' first) history s room h = absurd room
-histories_reached priority object.Bag history s room h = absurd room
-histories_reached priority (object.Blocking store bound) history s room h = absurd room
+pub entry_is : (priority : Mark → ℕ) (o : Object) → IsChannelObject o → (s : Channel) (e : EntryMark) (t : State) → object_step priority o (ChannelState s) e ≡ Some t → IsEntry (kind_in priority o) s e t
+entry_is priority o room s e t h =
+    let by = accepted_caller priority o (ChannelState s) t e h in
+    let own = channel_entry_is (kind_in priority o) s e t (sym (kind_is priority o room s e) ∙ by.1) in
+    record { caller = by.0; after = own.0; state = own.1; answer = own.2 }
+
+runs_stay : (priority : Mark → ℕ) (o : Object) → IsChannelObject o → (es : List EntryMark) (s : Channel) (t : State) → IsReached (kind_in priority o) s → fold_from priority o (ChannelState s) es ≡ Some t → (x : Channel) × (t ≡ ChannelState x) × IsReached (kind_in priority o) x
+runs_stay priority o room [] s t was h = let e : ChannelState s ≡ t = cc in (s, sym e, was)
+runs_stay priority o room (e ∷ es) s t was h =
+    let by = and_then_some (λ n. fold_from priority o n es) (object_step priority o (ChannelState s) e) t h in
+    let own = entry_is priority o room s e by.0 by.1 in
+    let kept = steps_stay (kind_in priority o) s e.caller e.call (has_room priority o room) own.caller was in
+    runs_stay priority o room es own.after t (subst (StaysReached (kind_in priority o)) own.answer kept) (subst (λ (n : State). fold_from priority o n es ≡ Some t) own.state by.2)
+
+-- what a legal history of a channel object reaches
+pub history_reaches : (priority : Mark → ℕ) (o : Object) (history : List EntryMark) (t : State) → IsChannelObject o → state_after priority o history ≡ Some t → (x : Channel) × (t ≡ ChannelState x) × IsReached (kind_in priority o) x
+history_reaches priority o history t room h =
+    runs_stay priority o room history empty_channel t (empty_is_reached (kind_in priority o)) (subst (λ (n : State). fold_from priority o n history ≡ Some t) (starts_empty o room) h)
+
+abbrev channel_in : State → Channel
+channel_in (ChannelState s) = s
+channel_in _ = empty_channel
+
+-- a law of the states that histories reach holds after each legal history
+pub reached_by : (priority : Mark → ℕ) (o : Object) (history : List EntryMark) (s : Channel) → Reaches priority o history s → IsReached (kind_in priority o) s
+reached_by priority o history s r =
+    let by = history_reaches priority o history (ChannelState s) r.0 r.1 in
+    subst (IsReached (kind_in priority o)) (sym (ap channel_in by.1)) by.2
 
 set_not_none : (o : Option ℕ) → is_some o ≡ true → o ≡ None → ⊥
 set_not_none None h e = both_ways false refl h
@@ -89,7 +117,3 @@ completed_exactly kind s caller = (
       (parts.0, empty_from s.buffer (eqb-true (length s.buffer) 0 parts.1))),
   (λ h. let z : (length s.buffer == 0) ≡ true = ap (λ b. length b == 0) h.1 in simp (h.0, z) refl),
 )
-
--- a law of the states that histories reach holds after each legal history
-pub reached_by : (priority : Mark → ℕ) (o : Object) (history : List EntryMark) (s : Channel) → Reaches priority o history s → IsReached (kind_in priority o) s
-reached_by priority o history s r = histories_reached priority o history s r.0 r.1

@@ -1,17 +1,17 @@
 -- A wait stands in the kind of its begin until it is forgotten, call by call.
-use Rattle.std.specs.Prelude.{ℕ, List, [], ◌∷◌, ◌++◌, Bool, true, false, not, map, cond, MatchBool, ◌&&◌, ◌||◌, ◌==◌, Option, Some, None, remove, nat_le, slice_index, is_some, if◌then◌else◌}
+use Rattle.std.specs.Prelude.{ℕ, List, [], ◌∷◌, ◌++◌, Bool, true, false, not, map, ◌&&◌, ◌||◌, ◌==◌, Option, Some, None, remove, nat_le, is_some}
 use Rattle.std.specs.List.{position_or_len}
-use Rattle.std.proofs.Common.{◌≡◌, refl, ap, sym, ◌∙◌, subst, length, ◌⊎◌, inl, inr}
+use Rattle.std.proofs.Common.{◌≡◌, refl, sym, subst, length, ◌⊎◌, inl, inr}
 use Rattle.ho_base.specs.Marks.{Mark}
 use Rattle.ho_model.specs.declared.objects.Mode.{Mode}
 use Rattle.ho_model.specs.declared.objects.Mode.TheVariants.{Wait, DropNewest, DropOldest, DropWrite}
 use Rattle.ho_model.specs.declared.marks.CallMark.{CallMark}
 use Rattle.ho_model.specs.declared.marks.ReplyMark.{ReplyMark}
 use Rattle.ho_model.specs.declared.marks.CallMark.TheVariants.{Enq, Deq, Peek, Count, Snap, Add, Take, Write, Read, BeginWrite, BeginRead, BeginLookWrite, BeginLookRead, Poll, Cancel, CompleteWith, Completed, CompleteAdding, AddingCompleted}
-use Rattle.ho_model.specs.declared.marks.ReplyMark.TheVariants.{Done, Item, Full, Empty, Waiting, Ready, Faulted}
+use Rattle.ho_model.specs.declared.marks.ReplyMark.TheVariants.{Done, Item, Full, Empty, Waiting, Ready}
 use Rattle.ho_model.specs.Channel.{Standing, WantsItem, WantsRoom, LooksForItem, LooksForRoom, Answered, Waiter, Channel, Kind, Outcome, is_full, is_waiting, wants_item, wants_room, looks_for_item, looks_for_room, waiter_at, answered, answer_if, answer_at, overflow, written, taken, looked_read, looked_write, drops, or_else, begin, tell, told, told_complete, completed, is_wait, poll, polled, cancel, cancelled, channel_answer}
 use Rattle.channel_laws.specs.Twin.{is_of_wait}
-use Rattle.channel_laws.specs.Kinds.{AnswersRead, AnswersWrite, AnswersLook, AnswersBegin, CancelsBegin, IsInKind, StandsAs}
+use Rattle.channel_laws.specs.Kinds.{AnswersLook, AnswersBegin, CancelsBegin, IsInKind, StandsAs}
 use Rattle.channel_laws.proofs.Places.{some_of, first_of, drop_first, answer_first, first_is_other, position_some, position_none, answer_there, remove_there, waiter_first, other_named}
 
 -- 1. What becomes of one wait
@@ -168,11 +168,14 @@ module _ (b : CallMark) (c n : ℕ) where
 
 -- 3. The rows
 
+-- what follows has the wait in kind too
+abbrev pub KeepsKind : CallMark → ℕ → ℕ → Option Outcome → Type 0
+KeepsKind b c n None = Unit {0}
+KeepsKind b c n (Some o) = StandsAs b c n o.1.waits
+
 module _ (b : CallMark) (c n : ℕ) (s : Channel) (h : StandsAs b c n s.waits) where
-  -- what follows has the wait in kind too
   abbrev Keeps : Option Outcome → Type 0
-  Keeps None = Unit {0}
-  Keeps (Some o) = StandsAs b c n o.1.waits
+  Keeps o = KeepsKind b c n o
 
   abbrev reads : Waiter → Bool
   reads w = wants_item w.standing
@@ -254,7 +257,7 @@ module _ (b : CallMark) (c n : ℕ) (s : Channel) (h : StandsAs b c n s.waits) w
   peeked_step kind false e = simp e h
 
 -- every call but a poll or a cancel of that wait leaves it in kind
-pub others_keep : (kind : Kind) (b : CallMark) (c n : ℕ) (s : Channel) (h : StandsAs b c n s.waits) (caller : ℕ) (call : CallMark) → is_of_wait c n caller call ≡ false → Keeps b c n s h (channel_answer kind s caller call)
+pub others_keep : (kind : Kind) (b : CallMark) (c n : ℕ) (s : Channel) (h : StandsAs b c n s.waits) (caller : ℕ) (call : CallMark) → is_of_wait c n caller call ≡ false → KeepsKind b c n (channel_answer kind s caller call)
 others_keep kind b c n s h caller (Write item) other = or_else_keeps b c n s h (written kind s item) Full (written_keeps b c n s h kind item)
 others_keep kind b c n s h caller (BeginWrite item) other = begin_keeps b c n s h caller (WantsRoom item) (written kind s item) (written_keeps b c n s h kind item)
 others_keep kind b c n s h caller Read other = or_else_keeps b c n s h (taken kind s) Empty (taken_keeps b c n s h kind)
@@ -278,11 +281,11 @@ others_keep kind b c n s h caller AddingCompleted other = tt
 -- 4. The wait's own calls
 
 module _ (b : CallMark) (c n : ℕ) (s : Channel) (h : StandsAs b c n s.waits) where
-  own_standing : IsInKind b (waiter_at s.waits (position_or_len (is_wait c n) s.waits)).standing
+  pub own_standing : IsInKind b (waiter_at s.waits (position_or_len (is_wait c n) s.waits)).standing
   own_standing = subst (λ w. IsInKind b w.standing) (sym (waiter_first (is_wait c n) s.waits)) (own_kind b c n s.waits h)
 
   -- a poll of the wait says that it stands, and leaves it; or gives an answer in kind
-  own_poll_step : (waits : Bool) → is_waiting (waiter_at s.waits (position_or_len (is_wait c n) s.waits)).standing ≡ waits
+  pub own_poll_step : (waits : Bool) → is_waiting (waiter_at s.waits (position_or_len (is_wait c n) s.waits)).standing ≡ waits
       → ((poll s c n).0 ≡ polled (waiter_at s.waits (position_or_len (is_wait c n) s.waits)).standing n) × (waits ≡ true → (poll s c n).1 ≡ s)
   own_poll_step true k = let at = position_some (is_wait c n) s.waits (there b c n s.waits h) in simp (at, k) (refl, λ e. refl)
   own_poll_step false k = let at = position_some (is_wait c n) s.waits (there b c n s.waits h) in simp (at, k) (refl, λ e. (let no : false ≡ true = e in cc))

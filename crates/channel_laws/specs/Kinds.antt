@@ -62,3 +62,11 @@ ends_by n _ r = false
 
 abbrev pub ends_wait : ℕ → ℕ → EntryMark → Bool
 ends_wait c n e = (e.caller == c) && ends_by n e.call e.reply
+
+-- the four begins
+abbrev pub is_begin : CallMark → Bool
+is_begin (BeginWrite x) = true
+is_begin BeginRead = true
+is_begin BeginLookRead = true
+is_begin BeginLookWrite = true
+is_begin _ = false

@@ -7,10 +7,11 @@
 //!
 //! - `specs/Twin.antt`: a channel beside its twin, which lacks one wait.
 //! - `specs/Reached.antt`: the states that histories reach.
+//! - `specs/Kinds.antt`: the answers that a begin's wait can get.
 //! - `specs/Laws.antt`: the laws.
 #![tactic(auto)]
 
-ghost use Rattle.channel_laws.specs.Laws.{CancelLeavesTwin, OthersFollow, WaitsStandWhereTheyMust, CompletedExactly, CompletedHasNoWaits, ReadsTakeFirstLeast};
+ghost use Rattle.channel_laws.specs.Laws.{CancelLeavesTwin, OthersFollow, WaitsStandWhereTheyMust, CompletedExactly, CompletedHasNoWaits, PollsAnswerInKind, CancelsAnswerInKind, ReadsTakeFirstLeast};
 
 /// A cancelled wait has taken and left nothing: a cancel of an unanswered wait leaves exactly the
 /// channel without it, and until then every call either answered it, or answered and changed the
@@ -32,6 +33,15 @@ pub fn waits_stand_only_where_they_must()
 pub fn completed_is_the_end()
     ensures exactly { CompletedExactly }
     ensures no_waits { CompletedHasNoWaits }
+{}
+
+/// A wait is answered in the kind of the begin that left it, and by nothing else: a read with an item
+/// or with the end, a write with done or refused with its own item, a look with ready or faulted.
+/// Until such an answer was fetched, or the wait was cancelled, a poll says that it stands, or answers
+/// so; a cancel says that it is given up, or answers so. So the wait is never unknown before.
+pub fn a_wait_is_answered_in_kind()
+    ensures polls { PollsAnswerInKind }
+    ensures cancels { CancelsAnswerInKind }
 {}
 
 /// With a priority a read takes, of the items of least priority, the one that was written first.

@@ -3,7 +3,7 @@ use Rattle.std.proofs.Common.{◌≡◌, refl, sym, ap, ◌∙◌, ℕ, ◌<◌,
 use Rattle.std.specs.Prelude.{Bool, true, false, ◌&&◌, ◌==◌, Option, Some, None, nat_lt, if◌then◌else◌}
 use Rattle.std.specs.Option.{option_map}
 use Rattle.std.specs.Str.{bytes_eq}
-use Rattle.std.proofs.lemmas.Bool.{and_parts, eqb-true}
+use Rattle.std.proofs.lemmas.Bool.{and_parts, eqb-true, ltb-true}
 use Rattle.std.proofs.lemmas.Cmp.{nat_eq_equiv, nat_list_eq_equiv}
 use Rattle.std.proofs.lemmas.Slice.Eq.{bytes_eq-Decides}
 use Rattle.ho_base.specs.Marks.{Mark}
@@ -99,3 +99,21 @@ accepted_step said r t s false e h = let no : None ≡ Some s = simp e at h in c
 pub accepted_is : {S : Type 0} (answer : Option (ReplyMark × S)) (r : ReplyMark) (s : S) → accepted answer r ≡ Some s → answer ≡ Some (r, s)
 accepted_is None r s h = cc
 accepted_is (Some answer) r s h = accepted_step answer.0 r answer.1 s (same_reply answer.0 r) refl h
+
+map_some : {A B : Type 0} (f : A → B) (o : Option A) (t : B) → option_map f o ≡ Some t → (x : A) × (t ≡ f x) × (o ≡ Some x)
+map_some f None t h = let no : None ≡ Some t = h in cc
+map_some f (Some x) t h = let e : f x ≡ t = cc in (x, sym e, refl)
+
+-- an entry of a channel has the channel's own answer
+pub channel_entry_is : (kind : Kind) (s : Channel) (e : EntryMark) (t : State) → channel_step kind (ChannelState s) e ≡ Some t → (x : Channel) × (t ≡ ChannelState x) × (◌≡◌ {A = Option (ReplyMark × Channel)} (channel_answer kind s e.caller e.call) (Some (e.reply, x)))
+channel_entry_is kind s e t h =
+    let by = map_some ChannelState (accepted (channel_answer kind s e.caller e.call) e.reply) t h in
+    (by.0, by.1, accepted_is (channel_answer kind s e.caller e.call) e.reply by.0 by.2)
+
+caller_step : (after : Option State) (t : State) (c : ℕ) (k : Bool) → nat_lt c most_callers ≡ k → (if k then after else None) ≡ Some t → (c < most_callers) × (after ≡ Some t)
+caller_step after t c true e h = (ltb-true c most_callers e, h)
+caller_step after t c false e h = let no : None ≡ Some t = h in cc
+
+-- an entry that an object accepts has a caller that it can have
+pub accepted_caller : (priority : Mark → ℕ) (o : Object) (s t : State) (e : EntryMark) → object_step priority o s e ≡ Some t → (e.caller < most_callers) × (stepped priority o s e ≡ Some t)
+accepted_caller priority o s t e h = caller_step (stepped priority o s e) t e.caller (nat_lt e.caller most_callers) refl h
