@@ -15,8 +15,8 @@ use Rattle.ho_model.specs.Objects.{State, ChannelState, object_step, channel_ste
 use Rattle.ho_model.proofs.Folds.{and_then_some}
 use Rattle.ho_model.proofs.Replies.{channel_entry_is, accepted_caller}
 use Rattle.ho_model.specs.Histories.{fold_from, state_after}
-use Rattle.channel_laws.specs.Reached.{IsSettled, IsReached, HasRoom, StaysReached, IsChannelObject, Reaches, kind_in}
-use Rattle.channel_laws.proofs.Settling.{steps_stay, empty_is_reached}
+use Rattle.channel_laws.specs.Reached.{IsSettled, IsReached, IsChannelObject, Reaches, kind_in}
+use Rattle.channel_laws.proofs.Settling.{HasRoom, StaysReached, steps_stay, empty_is_reached}
 
 -- an entry of a channel object is one of its channel
 pub kind_is : (priority : Mark → ℕ) (o : Object) → IsChannelObject o → (s : Channel) (e : EntryMark) → stepped priority o (ChannelState s) e ≡ channel_step (kind_in priority o) (ChannelState s) e

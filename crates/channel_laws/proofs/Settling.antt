@@ -13,8 +13,18 @@ use Rattle.ho_model.specs.declared.marks.ReplyMark.{ReplyMark}
 use Rattle.ho_model.specs.declared.marks.CallMark.TheVariants.{Enq, Deq, Peek, Count, Snap, Add, Take, Write, Read, BeginWrite, BeginRead, BeginLookWrite, BeginLookRead, Poll, Cancel, CompleteWith, Completed, CompleteAdding, AddingCompleted}
 use Rattle.ho_model.specs.declared.marks.ReplyMark.TheVariants.{Done, Item, Full, Empty, Ready}
 use Rattle.ho_model.specs.Channel.{Standing, WantsItem, WantsRoom, LooksForItem, LooksForRoom, Answered, Waiter, Channel, Kind, Outcome, is_full, least_place, read_place, is_waiting, wants_item, wants_room, looks_for_item, looks_for_room, item_of, waiter_at, answered, answer_if, answer_at, overflow, written, taken, looked_read, looked_write, drops, or_else, begin, tell, told, completed, is_wait, poll, cancel, channel_answer, empty_channel}
-use Rattle.channel_laws.specs.Reached.{IsSettled, IsReached, HasRoom, StaysReached}
+use Rattle.channel_laws.specs.Reached.{IsSettled, IsReached}
 use Rattle.channel_laws.proofs.Places.{some_of, drop_first, answer_first, position_some, position_none, answer_there, remove_there}
+
+-- a buffer with a capacity has room for one item at least
+abbrev pub HasRoom : Option ℕ → Type 0
+HasRoom None = Unit {0}
+HasRoom (Some capacity) = 0 < capacity
+
+-- what follows is such a state too
+abbrev pub StaysReached : Kind → Option Outcome → Type 0
+StaysReached kind None = Unit {0}
+StaysReached kind (Some o) = IsReached kind o.1
 
 abbrev Each : {X : Type 0} → (X → Type 0) → List X → Type 0
 Each P xs = AllByRecursion P xs

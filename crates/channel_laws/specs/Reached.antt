@@ -23,20 +23,11 @@ pub record IsNamed (s : Channel) : Type 0 where
   pub once : (c n : ℕ) → count_by (is_wait c n) s.waits ≤ 1
   pub below : AllByRecursion (λ w. w.number < slice_index s.begins w.caller) s.waits
 
+-- 64 counts of begins, names as above, and each wait only where it must stand
 pub record IsReached (kind : Kind) (s : Channel) : Type 0 where
   pub callers : length s.begins ≡ 64
   pub named : IsNamed s
   pub settled : AllByRecursion (λ w. IsSettled kind (length s.buffer) s.completion w.standing) s.waits
-
--- a buffer with a capacity has room for one item at least
-abbrev pub HasRoom : Option ℕ → Type 0
-HasRoom None = Unit {0}
-HasRoom (Some capacity) = 0 < capacity
-
--- what follows is such a state too
-abbrev pub StaysReached : Kind → Option Outcome → Type 0
-StaysReached kind None = Unit {0}
-StaysReached kind (Some o) = IsReached kind o.1
 
 -- the channel objects, and what kind of channel each is
 abbrev pub IsChannelObject : Object → Type 0

@@ -9,6 +9,9 @@
 //! - `specs/Reached.antt`: the states that histories reach.
 //! - `specs/Kinds.antt`: the answers that a begin's wait can get.
 //! - `specs/Laws.antt`: the laws.
+//!
+//! The functions have no code, so that no edit of it can be refused; what guards the laws is that they
+//! are proved of the definitions as they stand.
 #![tactic(auto)]
 
 ghost use Rattle.channel_laws.specs.Laws.{CancelLeavesTwin, OthersFollow, WaitsStandWhereTheyMust, CompletedExactly, CompletedHasNoWaits, PollsAnswerInKind, CancelsAnswerInKind, ReadsTakeFirstLeast};
