@@ -16,7 +16,7 @@ use std::alloc::AllocError;
 
 impl<T: Marked, S: ItemStore<T>> Core<T, S> {
     /// A begin of a write. A place for the wait is taken first, so that a refusal changes nothing.
-    pub fn begin_write(&mut self, caller: u32, item: T) -> Result<ChannelReply<T>, T>
+    pub(crate) fn begin_write(&mut self, caller: u32, item: T) -> Result<ChannelReply<T>, T>
         requires caller { caller < 64 }
         requires few { slice_index self.old.begins caller < 2 ^ 60 }
         requires room { HasRoom (S.capacity self.old.store) }
@@ -50,7 +50,7 @@ impl<T: Marked, S: ItemStore<T>> Core<T, S> {
     }
 
     /// A begin of a read.
-    pub fn begin_read(&mut self, caller: u32) -> Result<ChannelReply<T>, AllocError>
+    pub(crate) fn begin_read(&mut self, caller: u32) -> Result<ChannelReply<T>, AllocError>
         requires caller { caller < 64 }
         requires few { slice_index self.old.begins caller < 2 ^ 60 }
         requires arrivals { S.arrivals self.old.store < 2 ^ 60 }
@@ -79,7 +79,7 @@ impl<T: Marked, S: ItemStore<T>> Core<T, S> {
     }
 
     /// A begin of a look for an item.
-    pub fn begin_look_for_item(&mut self, caller: u32) -> Result<ChannelReply<T>, AllocError>
+    pub(crate) fn begin_look_for_item(&mut self, caller: u32) -> Result<ChannelReply<T>, AllocError>
         requires caller { caller < 64 }
         requires few { slice_index self.old.begins caller < 2 ^ 60 }
         ensures ok { IfOk result
@@ -104,7 +104,7 @@ impl<T: Marked, S: ItemStore<T>> Core<T, S> {
     }
 
     /// A begin of a look for room.
-    pub fn begin_look_for_room(&mut self, caller: u32) -> Result<ChannelReply<T>, AllocError>
+    pub(crate) fn begin_look_for_room(&mut self, caller: u32) -> Result<ChannelReply<T>, AllocError>
         requires caller { caller < 64 }
         requires few { slice_index self.old.begins caller < 2 ^ 60 }
         ensures ok { IfOk result
@@ -130,7 +130,7 @@ impl<T: Marked, S: ItemStore<T>> Core<T, S> {
     }
 
     /// The answer of a caller's wait, which is then forgotten.
-    pub fn poll(&mut self, caller: u32, number: u64) -> ChannelReply<T>
+    pub(crate) fn poll(&mut self, caller: u32, number: u64) -> ChannelReply<T>
         ensures answer { channel.poll (channel_of T.mark S.items self.old) caller number
             ≡ (reply_mark T.mark result, channel_of T.mark S.items self.new) }
         ensures fits { PollFits number result }
@@ -148,7 +148,7 @@ impl<T: Marked, S: ItemStore<T>> Core<T, S> {
     }
 
     /// Gives up a caller's wait, or fetches its answer. It is then forgotten.
-    pub fn cancel(&mut self, caller: u32, number: u64) -> ChannelReply<T>
+    pub(crate) fn cancel(&mut self, caller: u32, number: u64) -> ChannelReply<T>
         ensures answer { channel.cancel (channel_of T.mark S.items self.old) caller number
             ≡ (reply_mark T.mark result, channel_of T.mark S.items self.new) }
         ensures fits { CancelFits result }

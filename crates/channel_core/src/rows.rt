@@ -17,19 +17,19 @@ use std::alloc::Global;
 /// The parts of a channel, over any store of items.
 #[derive(Drop)]
 pub struct Core<T, S> {
-    pub mode: Mode,
-    pub store: S,
+    pub(crate) mode: Mode,
+    pub(crate) store: S,
     /// The waits that stand, oldest first.
-    pub waits: Vec<Waiter<T>>,
+    pub(crate) waits: Vec<Waiter<T>>,
     /// How many begins each caller has made.
-    pub begins: [u64; 64],
-    pub completion: Option<Option<Fault>>,
+    pub(crate) begins: [u64; 64],
+    pub(crate) completion: Option<Option<Fault>>,
 }
 
 /// What a write or a read came to: an answer, or what it was given, where it would have to wait or
 /// there was no memory.
 #[derive(Drop)]
-pub enum Tried<T, X> {
+pub(crate) enum Tried<T, X> {
     Answer(ChannelReply<T>),
     Wait(X),
     NoMemory(X),
@@ -54,7 +54,7 @@ impl<T: Marked, S: ItemStore<T>> Core<T, S> {
     }
 
     /// A write, as far as it needs no wait.
-    pub fn write(&mut self, item: T) -> Tried<T, T>
+    pub(crate) fn write(&mut self, item: T) -> Tried<T, T>
         requires room { HasRoom (S.capacity self.old.store) }
         requires arrivals { S.arrivals self.old.store < 2 ^ 60 }
         ensures tried { IsTried T.mark
@@ -115,7 +115,7 @@ impl<T: Marked, S: ItemStore<T>> Core<T, S> {
     }
 
     /// A read, as far as it needs no wait.
-    pub fn read(&mut self) -> Tried<T, ()>
+    pub(crate) fn read(&mut self) -> Tried<T, ()>
         requires arrivals { S.arrivals self.old.store < 2 ^ 60 }
         ensures tried { IsTried T.mark
             (channel.taken (kind_of S.capacity S.priority self.old)
@@ -177,7 +177,7 @@ impl<T: Marked, S: ItemStore<T>> Core<T, S> {
     }
 
     /// A look for an item, as far as it needs no wait.
-    pub fn look_for_item(&self) -> Option<Looked>
+    pub(crate) fn look_for_item(&self) -> Option<Looked>
         ensures look { IsLook (channel.looked_read (channel_of T.mark S.items self.now))
             (channel_of T.mark S.items self.now) result }
     {
@@ -191,7 +191,7 @@ impl<T: Marked, S: ItemStore<T>> Core<T, S> {
     }
 
     /// A look for room, as far as it needs no wait.
-    pub fn look_for_room(&self) -> Option<Looked>
+    pub(crate) fn look_for_room(&self) -> Option<Looked>
         ensures look { IsLook
             (channel.looked_write (kind_of S.capacity S.priority self.now)
             (channel_of T.mark S.items self.now)) (channel_of T.mark S.items self.now) result }
@@ -206,7 +206,7 @@ impl<T: Marked, S: ItemStore<T>> Core<T, S> {
     }
 
     /// Completes the channel, unless it is complete.
-    pub fn complete(&mut self, fault: Option<Fault>) -> bool
+    pub(crate) fn complete(&mut self, fault: Option<Fault>) -> bool
         ensures answer { channel.completed (channel_of T.mark S.items self.old) (fault_number fault)
             ≡ (replymark.Flag result, channel_of T.mark S.items self.new) }
         ensures store { self.new.store ≡ self.old.store }
@@ -222,7 +222,7 @@ impl<T: Marked, S: ItemStore<T>> Core<T, S> {
     }
 
     /// The number of the item that a read would take.
-    pub fn peek(&self) -> ChannelReply<T>
+    pub(crate) fn peek(&self) -> ChannelReply<T>
         ensures answer { channel.peeked (kind_of S.capacity S.priority self.now)
             (channel_of T.mark S.items self.now)
             ≡ (reply_mark T.mark result, channel_of T.mark S.items self.now) }
@@ -235,7 +235,7 @@ impl<T: Marked, S: ItemStore<T>> Core<T, S> {
     }
 
     /// Whether the channel is complete and has no item left.
-    pub fn is_completed(&self) -> bool
+    pub(crate) fn is_completed(&self) -> bool
         ensures { result ≡ channel.is_completed (channel_of T.mark S.items self.now) }
     {
         self.completion.is_some() && self.store.len() == 0
