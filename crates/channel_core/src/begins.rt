@@ -16,16 +16,22 @@ use std::alloc::AllocError;
 
 impl<T: Marked, S: ItemStore<T>> Core<T, S> {
     /// A begin of a write. A place for the wait is taken first, so that a refusal changes nothing.
-    pub fn begin_write(&mut self, caller: u32, item: T) -> Result<ChannelReply<T>, T>
+    pub(crate) fn begin_write(&mut self, caller: u32, item: T) -> Result<ChannelReply<T>, T>
         requires caller { caller < 64 }
         requires few { slice_index self.old.begins caller < 2 ^ 60 }
         requires room { HasRoom (S.capacity self.old.store) }
         requires arrivals { S.arrivals self.old.store < 2 ^ 60 }
-        ensures ok { IfOk result (λ reply. channel.begin (channel_of T.mark S.items self.old) caller (channel.WantsRoom (T.mark item))
-            (channel.written (kind_of S.capacity S.priority self.old) (channel_of T.mark S.items self.old) (T.mark item)) ≡ (reply_mark T.mark reply, channel_of T.mark S.items self.new)) }
+        ensures ok { IfOk result
+            (λ reply. channel.begin (channel_of T.mark S.items self.old) caller
+            (channel.WantsRoom (T.mark item))
+            (channel.written (kind_of S.capacity S.priority self.old)
+            (channel_of T.mark S.items self.old) (T.mark item))
+            ≡ (reply_mark T.mark reply, channel_of T.mark S.items self.new)) }
         ensures fits { IfOk result (λ reply. BeginWriteFits item reply) }
         ensures begins { OnOk result (self.new.begins ≡ begun self.old.begins caller) }
-        ensures err { IfErr result (λ back. (back ≡ item) × (channel_of T.mark S.items self.new ≡ channel_of T.mark S.items self.old)) }
+        ensures err { IfErr result
+            (λ back. (back ≡ item)
+            × (channel_of T.mark S.items self.new ≡ channel_of T.mark S.items self.old)) }
         ensures kind { IsSameKind S.capacity self.old self.new }
         ensures arrivals { S.arrivals self.new.store ≤ S.arrivals self.old.store + 1 }
         ensures unpaid { OnErr result (S.arrivals self.new.store ≤ S.arrivals self.old.store) }
@@ -44,15 +50,19 @@ impl<T: Marked, S: ItemStore<T>> Core<T, S> {
     }
 
     /// A begin of a read.
-    pub fn begin_read(&mut self, caller: u32) -> Result<ChannelReply<T>, AllocError>
+    pub(crate) fn begin_read(&mut self, caller: u32) -> Result<ChannelReply<T>, AllocError>
         requires caller { caller < 64 }
         requires few { slice_index self.old.begins caller < 2 ^ 60 }
         requires arrivals { S.arrivals self.old.store < 2 ^ 60 }
-        ensures ok { IfOk result (λ reply. channel.begin (channel_of T.mark S.items self.old) caller channel.WantsItem
-            (channel.taken (kind_of S.capacity S.priority self.old) (channel_of T.mark S.items self.old)) ≡ (reply_mark T.mark reply, channel_of T.mark S.items self.new)) }
+        ensures ok { IfOk result
+            (λ reply. channel.begin (channel_of T.mark S.items self.old) caller channel.WantsItem
+            (channel.taken (kind_of S.capacity S.priority self.old)
+            (channel_of T.mark S.items self.old))
+            ≡ (reply_mark T.mark reply, channel_of T.mark S.items self.new)) }
         ensures fits { IfOk result (λ reply. BeginReadFits reply) }
         ensures begins { OnOk result (self.new.begins ≡ begun self.old.begins caller) }
-        ensures err { OnErr result (channel_of T.mark S.items self.new ≡ channel_of T.mark S.items self.old) }
+        ensures err { OnErr result
+            (channel_of T.mark S.items self.new ≡ channel_of T.mark S.items self.old) }
         ensures kind { IsSameKind S.capacity self.old self.new }
         ensures arrivals { S.arrivals self.new.store ≤ S.arrivals self.old.store + 1 }
         ensures unpaid { OnErr result (S.arrivals self.new.store ≤ S.arrivals self.old.store) }
@@ -69,14 +79,17 @@ impl<T: Marked, S: ItemStore<T>> Core<T, S> {
     }
 
     /// A begin of a look for an item.
-    pub fn begin_look_for_item(&mut self, caller: u32) -> Result<ChannelReply<T>, AllocError>
+    pub(crate) fn begin_look_for_item(&mut self, caller: u32) -> Result<ChannelReply<T>, AllocError>
         requires caller { caller < 64 }
         requires few { slice_index self.old.begins caller < 2 ^ 60 }
-        ensures ok { IfOk result (λ reply. channel.begin (channel_of T.mark S.items self.old) caller channel.LooksForItem
-            (channel.looked_read (channel_of T.mark S.items self.old)) ≡ (reply_mark T.mark reply, channel_of T.mark S.items self.new)) }
+        ensures ok { IfOk result
+            (λ reply. channel.begin (channel_of T.mark S.items self.old) caller channel.LooksForItem
+            (channel.looked_read (channel_of T.mark S.items self.old))
+            ≡ (reply_mark T.mark reply, channel_of T.mark S.items self.new)) }
         ensures fits { IfOk result (λ reply. BeginLookFits reply) }
         ensures begins { OnOk result (self.new.begins ≡ begun self.old.begins caller) }
-        ensures err { OnErr result (channel_of T.mark S.items self.new ≡ channel_of T.mark S.items self.old) }
+        ensures err { OnErr result
+            (channel_of T.mark S.items self.new ≡ channel_of T.mark S.items self.old) }
         ensures store { self.new.store ≡ self.old.store }
         ensures mode { self.new.mode ≡ self.old.mode }
     {
@@ -91,14 +104,18 @@ impl<T: Marked, S: ItemStore<T>> Core<T, S> {
     }
 
     /// A begin of a look for room.
-    pub fn begin_look_for_room(&mut self, caller: u32) -> Result<ChannelReply<T>, AllocError>
+    pub(crate) fn begin_look_for_room(&mut self, caller: u32) -> Result<ChannelReply<T>, AllocError>
         requires caller { caller < 64 }
         requires few { slice_index self.old.begins caller < 2 ^ 60 }
-        ensures ok { IfOk result (λ reply. channel.begin (channel_of T.mark S.items self.old) caller channel.LooksForRoom
-            (channel.looked_write (kind_of S.capacity S.priority self.old) (channel_of T.mark S.items self.old)) ≡ (reply_mark T.mark reply, channel_of T.mark S.items self.new)) }
+        ensures ok { IfOk result
+            (λ reply. channel.begin (channel_of T.mark S.items self.old) caller channel.LooksForRoom
+            (channel.looked_write (kind_of S.capacity S.priority self.old)
+            (channel_of T.mark S.items self.old))
+            ≡ (reply_mark T.mark reply, channel_of T.mark S.items self.new)) }
         ensures fits { IfOk result (λ reply. BeginLookFits reply) }
         ensures begins { OnOk result (self.new.begins ≡ begun self.old.begins caller) }
-        ensures err { OnErr result (channel_of T.mark S.items self.new ≡ channel_of T.mark S.items self.old) }
+        ensures err { OnErr result
+            (channel_of T.mark S.items self.new ≡ channel_of T.mark S.items self.old) }
         ensures store { self.new.store ≡ self.old.store }
         ensures mode { self.new.mode ≡ self.old.mode }
     {
@@ -113,8 +130,9 @@ impl<T: Marked, S: ItemStore<T>> Core<T, S> {
     }
 
     /// The answer of a caller's wait, which is then forgotten.
-    pub fn poll(&mut self, caller: u32, number: u64) -> ChannelReply<T>
-        ensures answer { channel.poll (channel_of T.mark S.items self.old) caller number ≡ (reply_mark T.mark result, channel_of T.mark S.items self.new) }
+    pub(crate) fn poll(&mut self, caller: u32, number: u64) -> ChannelReply<T>
+        ensures answer { channel.poll (channel_of T.mark S.items self.old) caller number
+            ≡ (reply_mark T.mark result, channel_of T.mark S.items self.new) }
         ensures fits { PollFits number result }
         ensures store { self.new.store ≡ self.old.store }
         ensures mode { self.new.mode ≡ self.old.mode }
@@ -130,8 +148,9 @@ impl<T: Marked, S: ItemStore<T>> Core<T, S> {
     }
 
     /// Gives up a caller's wait, or fetches its answer. It is then forgotten.
-    pub fn cancel(&mut self, caller: u32, number: u64) -> ChannelReply<T>
-        ensures answer { channel.cancel (channel_of T.mark S.items self.old) caller number ≡ (reply_mark T.mark result, channel_of T.mark S.items self.new) }
+    pub(crate) fn cancel(&mut self, caller: u32, number: u64) -> ChannelReply<T>
+        ensures answer { channel.cancel (channel_of T.mark S.items self.old) caller number
+            ≡ (reply_mark T.mark result, channel_of T.mark S.items self.new) }
         ensures fits { CancelFits result }
         ensures store { self.new.store ≡ self.old.store }
         ensures mode { self.new.mode ≡ self.old.mode }
@@ -148,7 +167,9 @@ impl<T: Marked, S: ItemStore<T>> Core<T, S> {
         requires caller { caller < 64 }
         requires few { slice_index self.old.begins caller < 2 ^ 60 }
         requires reserved { vec_len self.old.waits < vec_capacity self.old.waits }
-        ensures answer { channel.begin (channel_of T.mark S.items self.old) caller (standing_mark T.mark standing) None ≡ (reply_mark T.mark result, channel_of T.mark S.items self.new) }
+        ensures answer { channel.begin (channel_of T.mark S.items self.old) caller
+            (standing_mark T.mark standing) None
+            ≡ (reply_mark T.mark result, channel_of T.mark S.items self.new) }
         ensures waiting { result ≡ reply.Waiting (slice_index self.old.begins caller) }
         ensures store { self.new.store ≡ self.old.store }
         ensures mode { self.new.mode ≡ self.old.mode }
@@ -164,7 +185,13 @@ impl<T: Marked, S: ItemStore<T>> Core<T, S> {
         requires caller { caller < 64 }
         requires reserved { vec_len self.old.waits < vec_capacity self.old.waits }
         ensures number { result ≡ slice_index self.old.begins caller }
-        ensures waits { waits_mark T.mark self.new.waits.items ≡ waits_mark T.mark self.old.waits.items ++ record { caller = caller; number = slice_index self.old.begins caller; standing = standing_mark T.mark standing } ∷ [] }
+        ensures waits { waits_mark T.mark self.new.waits.items ≡ waits_mark T.mark
+            self.old.waits.items ++ record {
+              caller = caller;
+              number = slice_index self.old.begins caller;
+              standing = standing_mark
+                  T.mark standing;
+            } ∷ [] }
         ensures store { self.new.store ≡ self.old.store }
         ensures mode { self.new.mode ≡ self.old.mode }
         ensures begins { self.new.begins ≡ self.old.begins }
@@ -186,7 +213,8 @@ impl<T: Marked, S: ItemStore<T>> Core<T, S> {
     fn count_begin(&mut self, caller: u32)
         requires caller { caller < 64 }
         requires few { slice_index self.old.begins caller < 2 ^ 60 }
-        ensures channel { channel_of T.mark S.items self.new ≡ record (channel_of T.mark S.items self.old) { begins = begun self.old.begins caller } }
+        ensures channel { channel_of T.mark S.items self.new ≡ record
+            (channel_of T.mark S.items self.old) { begins = begun self.old.begins caller } }
         ensures store { self.new.store ≡ self.old.store }
         ensures mode { self.new.mode ≡ self.old.mode }
         ensures begins { self.new.begins ≡ begun self.old.begins caller }

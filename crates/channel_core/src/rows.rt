@@ -17,19 +17,19 @@ use std::alloc::Global;
 /// The parts of a channel, over any store of items.
 #[derive(Drop)]
 pub struct Core<T, S> {
-    pub mode: Mode,
-    pub store: S,
+    pub(crate) mode: Mode,
+    pub(crate) store: S,
     /// The waits that stand, oldest first.
-    pub waits: Vec<Waiter<T>>,
+    pub(crate) waits: Vec<Waiter<T>>,
     /// How many begins each caller has made.
-    pub begins: [u64; 64],
-    pub completion: Option<Option<Fault>>,
+    pub(crate) begins: [u64; 64],
+    pub(crate) completion: Option<Option<Fault>>,
 }
 
 /// What a write or a read came to: an answer, or what it was given, where it would have to wait or
 /// there was no memory.
 #[derive(Drop)]
-pub enum Tried<T, X> {
+pub(crate) enum Tried<T, X> {
     Answer(ChannelReply<T>),
     Wait(X),
     NoMemory(X),
@@ -54,17 +54,20 @@ impl<T: Marked, S: ItemStore<T>> Core<T, S> {
     }
 
     /// A write, as far as it needs no wait.
-    pub fn write(&mut self, item: T) -> Tried<T, T>
+    pub(crate) fn write(&mut self, item: T) -> Tried<T, T>
         requires room { HasRoom (S.capacity self.old.store) }
         requires arrivals { S.arrivals self.old.store < 2 ^ 60 }
-        ensures tried { IsTried T.mark (channel.written (kind_of S.capacity S.priority self.old) (channel_of T.mark S.items self.old) (T.mark item))
+        ensures tried { IsTried T.mark
+            (channel.written (kind_of S.capacity S.priority self.old)
+            (channel_of T.mark S.items self.old) (T.mark item))
             (channel_of T.mark S.items self.old) (channel_of T.mark S.items self.new) item result }
         ensures fits { AnswersBy (IsWritten item) result }
         ensures memory { WantsUnbounded (S.capacity self.old.store) result }
         ensures kind { IsSameKind S.capacity self.old self.new }
         ensures same { HasSameRoom self.old self.new }
         ensures arrivals { S.arrivals self.new.store ≤ S.arrivals self.old.store + 1 }
-        ensures unpaid { KeepsUnpaid (S.arrivals self.old.store) (S.arrivals self.new.store) result }
+        ensures unpaid { KeepsUnpaid (S.arrivals self.old.store) (S.arrivals self.new.store)
+            result }
     {
         if let Some(fault) = self.completion {
             return Tried::Answer(ChannelReply::Refused(fault, item));
@@ -88,8 +91,10 @@ impl<T: Marked, S: ItemStore<T>> Core<T, S> {
     /// A write to a full buffer.
     fn overflow(&mut self, item: T) -> Tried<T, T>
         requires room { HasRoom (S.capacity self.old.store) }
-        requires full { channel.is_full (S.capacity self.old.store) (length (S.items self.old.store)) ≡ true }
-        ensures tried { IsTried T.mark (channel.overflow self.old.mode (channel_of T.mark S.items self.old) (T.mark item))
+        requires full { channel.is_full (S.capacity self.old.store)
+            (length (S.items self.old.store)) ≡ true }
+        ensures tried { IsTried T.mark
+            (channel.overflow self.old.mode (channel_of T.mark S.items self.old) (T.mark item))
             (channel_of T.mark S.items self.old) (channel_of T.mark S.items self.new) item result }
         ensures fits { AnswersBy (IsWritten item) result }
         ensures memory { HasMemory result }
@@ -110,9 +115,11 @@ impl<T: Marked, S: ItemStore<T>> Core<T, S> {
     }
 
     /// A read, as far as it needs no wait.
-    pub fn read(&mut self) -> Tried<T, ()>
+    pub(crate) fn read(&mut self) -> Tried<T, ()>
         requires arrivals { S.arrivals self.old.store < 2 ^ 60 }
-        ensures tried { IsTried T.mark (channel.taken (kind_of S.capacity S.priority self.old) (channel_of T.mark S.items self.old))
+        ensures tried { IsTried T.mark
+            (channel.taken (kind_of S.capacity S.priority self.old)
+            (channel_of T.mark S.items self.old))
             (channel_of T.mark S.items self.old) (channel_of T.mark S.items self.new) unit result }
         ensures fits { AnswersBy IsRead result }
         ensures memory { HasMemory result }
@@ -135,10 +142,14 @@ impl<T: Marked, S: ItemStore<T>> Core<T, S> {
     /// Takes an item, and lets in that of a waiting write.
     fn take_and_admit(&mut self, writer: usize) -> T
         requires some { 0 < length (S.items self.old.store) }
-        requires writer { Some writer ≡ channel.oldest channel.wants_room (waits_mark T.mark self.old.waits.items) }
+        requires writer { Some writer ≡ channel.oldest channel.wants_room
+            (waits_mark T.mark self.old.waits.items) }
         requires arrivals { S.arrivals self.old.store < 2 ^ 60 }
-        ensures item { T.mark result ≡ channel.item_at (S.items self.old.store) (channel.read_place S.priority (S.items self.old.store)) }
-        ensures channel { channel_of T.mark S.items self.new ≡ channel.admitted (channel_of T.mark S.items self.old) (channel.read_place S.priority (S.items self.old.store)) writer }
+        ensures item { T.mark result ≡ channel.item_at (S.items self.old.store)
+            (channel.read_place S.priority (S.items self.old.store)) }
+        ensures channel { channel_of T.mark S.items self.new ≡ channel.admitted
+            (channel_of T.mark S.items self.old)
+            (channel.read_place S.priority (S.items self.old.store)) writer }
         ensures kind { IsSameKind S.capacity self.old self.new }
         ensures same { HasSameRoom self.old self.new }
         ensures arrivals { S.arrivals self.new.store ≤ S.arrivals self.old.store + 1 }
@@ -150,8 +161,11 @@ impl<T: Marked, S: ItemStore<T>> Core<T, S> {
     /// Takes an item, and tells those who look for room if there was none.
     fn take_and_free(&mut self) -> T
         requires some { 0 < length (S.items self.old.store) }
-        ensures item { T.mark result ≡ channel.item_at (S.items self.old.store) (channel.read_place S.priority (S.items self.old.store)) }
-        ensures channel { channel_of T.mark S.items self.new ≡ channel.freed (kind_of S.capacity S.priority self.old) (channel_of T.mark S.items self.old) (channel.read_place S.priority (S.items self.old.store)) }
+        ensures item { T.mark result ≡ channel.item_at (S.items self.old.store)
+            (channel.read_place S.priority (S.items self.old.store)) }
+        ensures channel { channel_of T.mark S.items self.new ≡ channel.freed
+            (kind_of S.capacity S.priority self.old) (channel_of T.mark S.items self.old)
+            (channel.read_place S.priority (S.items self.old.store)) }
         ensures kind { IsSameKind S.capacity self.old self.new }
         ensures same { HasSameRoom self.old self.new }
         ensures arrivals { S.arrivals self.new.store ≤ S.arrivals self.old.store }
@@ -163,8 +177,9 @@ impl<T: Marked, S: ItemStore<T>> Core<T, S> {
     }
 
     /// A look for an item, as far as it needs no wait.
-    pub fn look_for_item(&self) -> Option<Looked>
-        ensures look { IsLook (channel.looked_read (channel_of T.mark S.items self.now)) (channel_of T.mark S.items self.now) result }
+    pub(crate) fn look_for_item(&self) -> Option<Looked>
+        ensures look { IsLook (channel.looked_read (channel_of T.mark S.items self.now))
+            (channel_of T.mark S.items self.now) result }
     {
         if self.store.len() > 0 {
             return Some(Looked::Ready(true));
@@ -176,8 +191,10 @@ impl<T: Marked, S: ItemStore<T>> Core<T, S> {
     }
 
     /// A look for room, as far as it needs no wait.
-    pub fn look_for_room(&self) -> Option<Looked>
-        ensures look { IsLook (channel.looked_write (kind_of S.capacity S.priority self.now) (channel_of T.mark S.items self.now)) (channel_of T.mark S.items self.now) result }
+    pub(crate) fn look_for_room(&self) -> Option<Looked>
+        ensures look { IsLook
+            (channel.looked_write (kind_of S.capacity S.priority self.now)
+            (channel_of T.mark S.items self.now)) (channel_of T.mark S.items self.now) result }
     {
         if let Some(fault) = self.completion {
             return Some(Looked::at_completion(fault));
@@ -189,8 +206,9 @@ impl<T: Marked, S: ItemStore<T>> Core<T, S> {
     }
 
     /// Completes the channel, unless it is complete.
-    pub fn complete(&mut self, fault: Option<Fault>) -> bool
-        ensures answer { channel.completed (channel_of T.mark S.items self.old) (fault_number fault) ≡ (replymark.Flag result, channel_of T.mark S.items self.new) }
+    pub(crate) fn complete(&mut self, fault: Option<Fault>) -> bool
+        ensures answer { channel.completed (channel_of T.mark S.items self.old) (fault_number fault)
+            ≡ (replymark.Flag result, channel_of T.mark S.items self.new) }
         ensures store { self.new.store ≡ self.old.store }
         ensures mode { self.new.mode ≡ self.old.mode }
         ensures begins { self.new.begins ≡ self.old.begins }
@@ -204,8 +222,10 @@ impl<T: Marked, S: ItemStore<T>> Core<T, S> {
     }
 
     /// The number of the item that a read would take.
-    pub fn peek(&self) -> ChannelReply<T>
-        ensures answer { channel.peeked (kind_of S.capacity S.priority self.now) (channel_of T.mark S.items self.now) ≡ (reply_mark T.mark result, channel_of T.mark S.items self.now) }
+    pub(crate) fn peek(&self) -> ChannelReply<T>
+        ensures answer { channel.peeked (kind_of S.capacity S.priority self.now)
+            (channel_of T.mark S.items self.now)
+            ≡ (reply_mark T.mark result, channel_of T.mark S.items self.now) }
         ensures fits { PeekFits result }
     {
         if self.store.len() == 0 {
@@ -215,7 +235,7 @@ impl<T: Marked, S: ItemStore<T>> Core<T, S> {
     }
 
     /// Whether the channel is complete and has no item left.
-    pub fn is_completed(&self) -> bool
+    pub(crate) fn is_completed(&self) -> bool
         ensures { result ≡ channel.is_completed (channel_of T.mark S.items self.now) }
     {
         self.completion.is_some() && self.store.len() == 0

@@ -66,7 +66,8 @@ impl<T: Item> ChannelState<T> {
     ) -> Result<ChannelState<T>, NoMemory>
         requires capacity { (0 < capacity) × (capacity ≤ 65536) }
         requires callers { (0 < callers) × (callers ≤ 64) }
-        ensures empty { IfOk result (λ s. IsMachineOf T.priority_of (object.Bounded capacity mode) callers s []) }
+        ensures empty { IfOk result
+            (λ s. IsMachineOf T.priority_of (object.Bounded capacity mode) callers s []) }
     {
         let ring = HeapCircularBuffer::with_capacity(alloc, capacity as usize)?;
         Ok(ChannelState {

@@ -24,13 +24,17 @@ impl<T: Marked, S: ItemStore<T>> Core<T, S> {
         requires few { slice_index self.old.begins caller < 2 ^ 60 }
         requires room { HasRoom (S.capacity self.old.store) }
         requires arrivals { S.arrivals self.old.store < 2 ^ 60 }
-        ensures ok { IfOk result (λ reply. channel.channel_answer (kind_of S.capacity S.priority self.old) (channel_of T.mark S.items self.old) caller (call_mark T.mark call)
+        ensures ok { IfOk result
+            (λ reply. channel.channel_answer (kind_of S.capacity S.priority self.old)
+            (channel_of T.mark S.items self.old) caller (call_mark T.mark call)
             ≡ Some (reply_mark T.mark reply, channel_of T.mark S.items self.new)) }
         ensures fits { IfOk result (λ reply. fits no_tally call reply) }
         ensures begins { OnOk result (BeginsRise self.old.begins self.new.begins) }
-        ensures err { OnErr result (channel_of T.mark S.items self.new ≡ channel_of T.mark S.items self.old) }
+        ensures err { OnErr result
+            (channel_of T.mark S.items self.new ≡ channel_of T.mark S.items self.old) }
         ensures back { IfErr result (λ unpaid. unpaid.back ≡ call) }
-        ensures wanted { OnErr result (wants_memory (S.capacity self.old.store) (call_mark T.mark call) ≡ true) }
+        ensures wanted { OnErr result
+            (wants_memory (S.capacity self.old.store) (call_mark T.mark call) ≡ true) }
         ensures kind { IsSameKind S.capacity self.old self.new }
         ensures arrivals { S.arrivals self.new.store ≤ S.arrivals self.old.store + 1 }
         ensures unpaid { OnErr result (S.arrivals self.new.store ≤ S.arrivals self.old.store) }

@@ -35,7 +35,8 @@ pub trait ItemStore<T: Marked>: Drop {
         ensures ok { OnOk result (items self.new ≡ items self.old ++ T.mark item ∷ []) }
         ensures arrivals { arrivals self.new ≤ arrivals self.old + 1 }
         ensures back { IfErr result (λ back. back ≡ item) }
-        ensures err { OnErr result ((items self.new ≡ items self.old) × (capacity self.old ≡ None)) }
+        ensures err { OnErr result
+            ((items self.new ≡ items self.old) × (capacity self.old ≡ None)) }
         ensures unpaid { OnErr result (arrivals self.new ≤ arrivals self.old) };
 
     /// Takes the item that a read takes.
@@ -43,8 +44,10 @@ pub trait ItemStore<T: Marked>: Drop {
         requires { 0 < length (items self.old) }
         ensures capacity { capacity self.new ≡ capacity self.old }
         ensures arrivals { arrivals self.new ≤ arrivals self.old }
-        ensures item { T.mark result ≡ channel.item_at (items self.old) (channel.read_place priority (items self.old)) }
-        ensures rest { items self.new ≡ remove (items self.old) (channel.read_place priority (items self.old)) };
+        ensures item { T.mark result ≡ channel.item_at (items self.old)
+            (channel.read_place priority (items self.old)) }
+        ensures rest { items self.new ≡ remove (items self.old)
+            (channel.read_place priority (items self.old)) };
 
     /// Takes the item that a read takes, and puts another last. Takes no memory.
     fn take_and_put(&mut self, item: T) -> T
@@ -52,13 +55,16 @@ pub trait ItemStore<T: Marked>: Drop {
         requires arrivals { arrivals self.old < 2 ^ 60 }
         ensures capacity { capacity self.new ≡ capacity self.old }
         ensures arrivals { arrivals self.new ≤ arrivals self.old + 1 }
-        ensures item { T.mark result ≡ channel.item_at (items self.old) (channel.read_place priority (items self.old)) }
-        ensures rest { items self.new ≡ remove (items self.old) (channel.read_place priority (items self.old)) ++ T.mark item ∷ [] };
+        ensures item { T.mark result ≡ channel.item_at (items self.old)
+            (channel.read_place priority (items self.old)) }
+        ensures rest { items self.new ≡ remove (items self.old)
+            (channel.read_place priority (items self.old)) ++ T.mark item ∷ [] };
 
     /// The number of the item that a read would take.
     fn show(&self) -> u64
         requires { 0 < length (items self.now) }
-        ensures { result ≡ number_of (channel.item_at (items self.now) (channel.read_place priority (items self.now))) };
+        ensures { result ≡ number_of
+            (channel.item_at (items self.now) (channel.read_place priority (items self.now))) };
 
     /// Drops the item that was written first for one that is written last. Takes no memory.
     fn replace_oldest(&mut self, item: T) -> T
@@ -75,6 +81,8 @@ pub trait ItemStore<T: Marked>: Drop {
         requires full { channel.is_full (capacity self.old) (length (items self.old)) ≡ true }
         ensures capacity { capacity self.new ≡ capacity self.old }
         ensures arrivals { arrivals self.new ≤ arrivals self.old }
-        ensures gone { T.mark result ≡ channel.item_at (items self.old) (length (items self.old) - 1) }
-        ensures items { items self.new ≡ take (length (items self.old) - 1) (items self.old) ++ T.mark item ∷ [] };
+        ensures gone { T.mark result ≡ channel.item_at (items self.old)
+            (length (items self.old) - 1) }
+        ensures items { items self.new ≡ take (length (items self.old) - 1) (items self.old) ++
+            T.mark item ∷ [] };
 }

@@ -121,7 +121,8 @@ impl<T: Marked> Waiter<T> {
 
     /// Tells a wait of this kind that what it looks for is there.
     fn answer_look(&mut self, want: Want)
-        ensures { waiter_mark T.mark self.new ≡ channel.answer_if (kind_of want) (replymark.Ready true) (waiter_mark T.mark self.old) }
+        ensures { waiter_mark T.mark self.new ≡ channel.answer_if (kind_of want)
+            (replymark.Ready true) (waiter_mark T.mark self.old) }
     {
         if self.standing.is(want) {
             self.standing = Standing::Answered(Settled::Look(Looked::Ready(true)));
@@ -130,7 +131,8 @@ impl<T: Marked> Waiter<T> {
 
     /// Tells an unanswered wait that the channel is complete.
     fn tell(&mut self, fault: Option<Fault>)
-        ensures { waiter_mark T.mark self.new ≡ channel.tell (fault_number fault) (waiter_mark T.mark self.old) }
+        ensures { waiter_mark T.mark self.new ≡ channel.tell (fault_number fault)
+            (waiter_mark T.mark self.old) }
     {
         let standing = replace(&mut self.standing, Standing::WantsItem);
         self.standing = told(fault, standing);
@@ -139,7 +141,8 @@ impl<T: Marked> Waiter<T> {
 
 /// Where a wait stands once the channel is complete.
 fn told<T: Marked>(fault: Option<Fault>, standing: Standing<T>) -> Standing<T>
-    ensures { standing_mark T.mark result ≡ channel.told (fault_number fault) (standing_mark T.mark standing) }
+    ensures { standing_mark T.mark result ≡ channel.told (fault_number fault)
+        (standing_mark T.mark standing) }
 {
     match standing {
         Standing::WantsItem => Standing::Answered(Settled::Closed(fault)),
@@ -172,7 +175,8 @@ pub fn find<T: Marked>(waits: &[Waiter<T>], caller: u32, number: u64) -> Option<
 }
 
 fn find_here<T: Marked>(waits: &[Waiter<T>], caller: u32, number: u64) -> Option<usize>
-    ensures { result ≡ position (λ w. channel.is_wait caller number (waiter_mark T.mark w)) waits.now }
+    ensures { result ≡ position (λ w. channel.is_wait caller number (waiter_mark T.mark w))
+        waits.now }
 {
     waits.iter().position(|w| w.is_of(caller, number))
 }
@@ -180,14 +184,16 @@ fn find_here<T: Marked>(waits: &[Waiter<T>], caller: u32, number: u64) -> Option
 /// Whether the wait at a place has no answer yet.
 pub fn is_waiting<T: Marked>(waits: &[Waiter<T>], place: usize) -> bool
     requires { place < length waits.now }
-    ensures { result ≡ channel.is_waiting (channel.waiter_at (waits_mark T.mark waits.now) place).standing }
+    ensures { result ≡ channel.is_waiting
+        (channel.waiter_at (waits_mark T.mark waits.now) place).standing }
 {
     waits[place].standing.is_unanswered()
 }
 
 /// All such waits are told that what they look for is there.
 pub fn answer_looks<T: Marked>(waits: &mut [Waiter<T>], want: Want)
-    ensures { waits_mark T.mark waits.new ≡ channel.answer_all (kind_of want) (replymark.Ready true) (waits_mark T.mark waits.old) }
+    ensures { waits_mark T.mark waits.new ≡ channel.answer_all (kind_of want) (replymark.Ready true)
+        (waits_mark T.mark waits.old) }
 {
     for w in waits.iter_mut() {
         w.answer_look(want);
@@ -196,7 +202,8 @@ pub fn answer_looks<T: Marked>(waits: &mut [Waiter<T>], want: Want)
 
 /// All unanswered waits are told that the channel is complete.
 pub fn tell_all<T: Marked>(waits: &mut [Waiter<T>], fault: &Option<Fault>)
-    ensures { waits_mark T.mark waits.new ≡ map (channel.tell (fault_number fault.now)) (waits_mark T.mark waits.old) }
+    ensures { waits_mark T.mark waits.new ≡ map (channel.tell (fault_number fault.now))
+        (waits_mark T.mark waits.old) }
 {
     for w in waits.iter_mut() {
         w.tell(*fault);
@@ -206,7 +213,8 @@ pub fn tell_all<T: Marked>(waits: &mut [Waiter<T>], fault: &Option<Fault>)
 /// Hands an item to the wait at a place.
 pub fn hand<T: Marked>(waits: &mut [Waiter<T>], place: usize, item: T)
     requires { place < length waits.old }
-    ensures { waits_mark T.mark waits.new ≡ channel.answer_at (waits_mark T.mark waits.old) place (replymark.Item (T.mark item)) }
+    ensures { waits_mark T.mark waits.new ≡ channel.answer_at (waits_mark T.mark waits.old) place
+        (replymark.Item (T.mark item)) }
 {
     let waiter = &mut waits[place];
     waiter.standing = Standing::Answered(Settled::Item(item));
@@ -215,9 +223,12 @@ pub fn hand<T: Marked>(waits: &mut [Waiter<T>], place: usize, item: T)
 /// Answers the waiting write at a place, and gives its item.
 pub fn admit<T: Marked>(waits: &mut [Waiter<T>], place: usize) -> T
     requires place { place < length waits.old }
-    requires wants { channel.wants_room (channel.waiter_at (waits_mark T.mark waits.old) place).standing ≡ true }
-    ensures item { T.mark result ≡ channel.item_of (channel.waiter_at (waits_mark T.mark waits.old) place).standing }
-    ensures waits { waits_mark T.mark waits.new ≡ channel.answer_at (waits_mark T.mark waits.old) place replymark.Done }
+    requires wants { channel.wants_room
+        (channel.waiter_at (waits_mark T.mark waits.old) place).standing ≡ true }
+    ensures item { T.mark result ≡ channel.item_of
+        (channel.waiter_at (waits_mark T.mark waits.old) place).standing }
+    ensures waits { waits_mark T.mark waits.new ≡ channel.answer_at (waits_mark T.mark waits.old)
+        place replymark.Done }
 {
     let waiter = &mut waits[place];
     match replace(&mut waiter.standing, Standing::Answered(Settled::Done)) {
@@ -229,8 +240,10 @@ pub fn admit<T: Marked>(waits: &mut [Waiter<T>], place: usize) -> T
 /// Removes the wait at a place, and gives what it wanted or was answered.
 pub fn withdraw<T: Marked>(waits: &mut Vec<Waiter<T>>, place: usize) -> Standing<T>
     requires { place < vec_len waits.old }
-    ensures standing { standing_mark T.mark result ≡ (channel.waiter_at (waits_mark T.mark waits.old.items) place).standing }
-    ensures waits { waits_mark T.mark waits.new.items ≡ remove (waits_mark T.mark waits.old.items) place }
+    ensures standing { standing_mark T.mark result
+        ≡ (channel.waiter_at (waits_mark T.mark waits.old.items) place).standing }
+    ensures waits { waits_mark T.mark waits.new.items ≡ remove (waits_mark T.mark waits.old.items)
+        place }
 {
     let waiter = waits.remove(place);
     waiter.standing
@@ -251,7 +264,8 @@ pub fn cancelled<T: Marked>(standing: Standing<T>) -> ChannelReply<T>
 /// The answer of an answered wait.
 pub fn fetched<T: Marked>(standing: Standing<T>) -> ChannelReply<T>
     requires { channel.is_waiting (standing_mark T.mark standing) ≡ false }
-    ensures mark { (number : ℕ) → reply_mark T.mark result ≡ channel.polled (standing_mark T.mark standing) number }
+    ensures mark { (number : ℕ) → reply_mark T.mark result ≡ channel.polled
+        (standing_mark T.mark standing) number }
     ensures settled { IsSettled result }
 {
     match standing {

@@ -45,7 +45,8 @@ impl<T: Item> PriorityState<T> {
     /// An empty channel, for 1 to 64 callers.
     pub fn new(alloc: Global, callers: u32) -> Result<PriorityState<T>, NoMemory>
         requires callers { (0 < callers) × (callers ≤ 64) }
-        ensures empty { IfOk result (λ s. IsMachineOf T.priority_of object.Prioritized callers s []) }
+        ensures empty { IfOk result
+            (λ s. IsMachineOf T.priority_of object.Prioritized callers s []) }
     {
         Ok(PriorityState {
             core: Core::new(alloc, Mode::Wait, PriorityStore::new(alloc)),

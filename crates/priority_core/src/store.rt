@@ -54,8 +54,11 @@ impl<T: Marked> PriorityStore<T> {
     /// Puts an item last. It takes memory only where the heap has no room.
     fn put(&mut self, item: T) -> Result<(), T>
         requires { self.old.arrivals < 2 ^ 60 }
-        ensures ok { OnOk result ((self.new.items ≡ self.old.items ++ T.mark item ∷ []) × (self.new.arrivals ≡ self.old.arrivals + 1)) }
-        ensures err { OnErr result ((self.new.items ≡ self.old.items) × (self.new.arrivals ≡ self.old.arrivals)) }
+        ensures ok { OnOk result
+            ((self.new.items ≡ self.old.items ++ T.mark item ∷ [])
+            × (self.new.arrivals ≡ self.old.arrivals + 1)) }
+        ensures err { OnErr result
+            ((self.new.items ≡ self.old.items) × (self.new.arrivals ≡ self.old.arrivals)) }
         ensures back { IfErr result (λ back. back ≡ item) }
         ensures room { length self.old.items < self.old.room → IsOk result }
     {
@@ -76,10 +79,13 @@ impl<T: Marked> PriorityStore<T> {
     /// Takes the item that leaves first, whose room stays.
     fn take_first(&mut self) -> T
         requires { 0 < length self.old.items }
-        ensures room { (self.new.room ≡ self.old.room) × (length self.new.items + 1 ≤ self.new.room) }
+        ensures room { (self.new.room ≡ self.old.room)
+            × (length self.new.items + 1 ≤ self.new.room) }
         ensures arrivals { self.new.arrivals ≡ self.old.arrivals }
-        ensures item { T.mark result ≡ channel.item_at self.old.items (channel.read_place (Some T.priority_of) self.old.items) }
-        ensures rest { self.new.items ≡ remove self.old.items (channel.read_place (Some T.priority_of) self.old.items) }
+        ensures item { T.mark result ≡ channel.item_at self.old.items
+            (channel.read_place (Some T.priority_of) self.old.items) }
+        ensures rest { self.new.items ≡ remove self.old.items
+            (channel.read_place (Some T.priority_of) self.old.items) }
     {
         match self.heap.pop() {
             Some(Reverse(first)) => first.item,
@@ -95,7 +101,9 @@ impl<T: Marked> PriorityStore<T> {
 
     fn first_number(&self) -> u64
         requires { 0 < length self.now.items }
-        ensures { result ≡ number_of (channel.item_at self.now.items (channel.read_place (Some T.priority_of) self.now.items)) }
+        ensures { result ≡ number_of
+            (channel.item_at self.now.items
+            (channel.read_place (Some T.priority_of) self.now.items)) }
     {
         match self.heap.peek() {
             Some(first) => first.0.item.shown_number(),
