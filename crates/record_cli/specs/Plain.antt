@@ -45,7 +45,8 @@ abbrev pub text_answer : Meaning → List Row → Answer
 text_answer pipeline rows =
     record {
       status = if is_stopped pipeline.guard rows then status.Ended else status.Done;
-      text = run_text pipeline rows }
+      text = run_text pipeline rows;
+    }
 
 abbrev pub rows_answer : List ℕ → Meaning → List (List (List ℕ)) → Option InputFault → Answer
 rows_answer name pipeline rows None = text_answer pipeline (numbered_from 0 rows)

@@ -5,8 +5,8 @@ ghost use Rattle.record_cli.specs.Answers.{IsComputed};
 ghost use Rattle.record_cli.specs.Plain.{missing, not_built, refused_place, refused_row, too_large, usage};
 ghost use Rattle.record_cli.specs.Statuses.{is_written};
 
-use crate::status::Status;
 use crate::answer::Answer;
+use crate::status::Status;
 use ho_base::Word;
 use itoa::Buffer;
 use record_lang::row_line;
@@ -69,7 +69,11 @@ pub(crate) fn refused_place(alloc: Global, name: &Word, place: u64, cause: u8) -
     let mut cause_digits = Buffer::new();
     let place = place_digits.format(place).as_bytes();
     let cause = cause_digits.format(cause).as_bytes();
-    one_row(alloc, Status::SpecRefused, &[b"spec", name.bytes(), place, cause])
+    one_row(
+        alloc,
+        Status::SpecRefused,
+        &[b"spec", name.bytes(), place, cause],
+    )
 }
 
 pub(crate) fn refused_row(alloc: Global, row: u64, cause: u8) -> Computed

@@ -14,13 +14,12 @@ mod plain;
 mod status;
 mod top;
 
+use crate::status::Status;
 use ho_base::Word;
 use ho_io::{DiskShelf, TerminalSink};
 use std::env;
 use std::io::ErrorKind;
 use std::process::ExitCode;
-
-use crate::status::Status;
 
 /// The exit status where the words can't be taken from the system, as where one is no text.
 const NO_WORDS: u8 = 11;
@@ -56,9 +55,6 @@ fn main(rt: HostRuntime) -> ExitCode {
     let status = top::run_plain(rt.alloc(), &words, &mut shelf, &mut out);
     ExitCode::from(status.number())
 }
-
-
-
 
 #[cfg(test)]
 mod tests;

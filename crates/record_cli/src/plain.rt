@@ -9,7 +9,9 @@ use crate::computed::{Computed, missing, refused_place, refused_row, too_large};
 use crate::status::Status;
 use ho_base::Word;
 use ho_io::{Loaded, Shelf, fetch_whole};
-use record_lang::{InputFault, Pipeline, Records, SpecFault, one_thread_text, parse_pipeline, read_records};
+use record_lang::{
+    InputFault, Pipeline, Records, SpecFault, one_thread_text, parse_pipeline, read_records,
+};
 use std::alloc::Global;
 
 /// The most bytes of a pipeline's file.

@@ -9,7 +9,9 @@ use std::alloc::Global;
 use std::test::Fail;
 
 const PIPELINE: &[u8] = b"stage keep 1 ge 10\nstage add 1 5\n";
+
 const RECORDS: &[u8] = b"ann,12\nbob,x\ncyd,7\n";
+
 const TEXT: &[u8] = b"result,0,ann,17\nrefused,1,1,2\ncounts,3,1,1,1\nending,done\n";
 
 // The words of a command line.
@@ -50,7 +52,12 @@ fn plain(alloc: Global, pipe: &[u8], records: &[u8]) -> Result<(Status, Vec<u8>)
 #[test]
 fn pipelines_and_records_give_their_text(rt: HostRuntime) -> Result<(), Fail> {
     let table: [(&[u8], &[u8], Status, &[u8]); 13] = [
-        (b"stage keep 0 ge 0\n", b"", Status::Done, b"counts,0,0,0,0\nending,done\n"),
+        (
+            b"stage keep 0 ge 0\n",
+            b"",
+            Status::Done,
+            b"counts,0,0,0,0\nending,done\n",
+        ),
         (PIPELINE, RECORDS, Status::Done, TEXT),
         (
             b"guard 0 ann 9\nstage keep 1 ge 10\nstage add 1 5\n",
@@ -94,10 +101,25 @@ fn pipelines_and_records_give_their_text(rt: HostRuntime) -> Result<(), Fail> {
             Status::Done,
             b"result,1,\"say \"\"yes\"\"\"\ncounts,2,1,0,1\nending,done\n",
         ),
-        (b"stage keep 0 ge 99999999999999999999\n", b"", Status::SpecRefused, b"spec,p,0,4\n"),
-        (b"joint wait 0\nstage cut 0\n", b"", Status::SpecRefused, b"spec,p,0,4\n"),
+        (
+            b"stage keep 0 ge 99999999999999999999\n",
+            b"",
+            Status::SpecRefused,
+            b"spec,p,0,4\n",
+        ),
+        (
+            b"joint wait 0\nstage cut 0\n",
+            b"",
+            Status::SpecRefused,
+            b"spec,p,0,4\n",
+        ),
         (b"", b"", Status::SpecRefused, b"spec,p,0,6\n"),
-        (b"stage cut 0\n", b"a,b\nc\n", Status::InputRefused, b"input,1,1\n"),
+        (
+            b"stage cut 0\n",
+            b"a,b\nc\n",
+            Status::InputRefused,
+            b"input,1,1\n",
+        ),
     ];
     for (pipe, records, status, text) in table {
         let (answer, taken) = plain(rt.alloc(), pipe, records)?;
@@ -113,24 +135,89 @@ fn words_have_a_form_or_are_refused(rt: HostRuntime) -> Result<(), Fail> {
     let table: [(&[&[u8]], Status, &[u8], bool); 20] = [
         (&[], Status::Usage, b"usage\n", false),
         (&[b"plain", b"p"], Status::Usage, b"usage\n", false),
-        (&[b"plain", b"p", b"f", b"f"], Status::Usage, b"usage\n", false),
+        (
+            &[b"plain", b"p", b"f", b"f"],
+            Status::Usage,
+            b"usage\n",
+            false,
+        ),
         (&[b"plain", b"", b"f"], Status::Usage, b"usage\n", false),
         (&[b"plain", b"p", b""], Status::Usage, b"usage\n", false),
         (&[b"Plain", b"p", b"f"], Status::Usage, b"usage\n", false),
-        (&[b"plain", b"g", b"f"], Status::Missing, b"missing,g\n", false),
-        (&[b"plain", b"p", b"g,h"], Status::Missing, b"missing,\"g,h\"\n", false),
-        (&[b"plain", b"p", b"-f"], Status::Missing, b"missing,-f\n", false),
-        (&[b"run", b"p", b"f", b"17"], Status::Usage, b"usage\n", false),
-        (&[b"run", b"p", b"f", b"0"], Status::Usage, b"usage\n", false),
-        (&[b"run", b"p", b"f", b"16"], Status::NotBuilt, b"notbuilt\n", true),
-        (&[b"run", b"p", b"f", b"000000000000000000001"], Status::Usage, b"usage\n", false),
+        (
+            &[b"plain", b"g", b"f"],
+            Status::Missing,
+            b"missing,g\n",
+            false,
+        ),
+        (
+            &[b"plain", b"p", b"g,h"],
+            Status::Missing,
+            b"missing,\"g,h\"\n",
+            false,
+        ),
+        (
+            &[b"plain", b"p", b"-f"],
+            Status::Missing,
+            b"missing,-f\n",
+            false,
+        ),
+        (
+            &[b"run", b"p", b"f", b"17"],
+            Status::Usage,
+            b"usage\n",
+            false,
+        ),
+        (
+            &[b"run", b"p", b"f", b"0"],
+            Status::Usage,
+            b"usage\n",
+            false,
+        ),
+        (
+            &[b"run", b"p", b"f", b"16"],
+            Status::NotBuilt,
+            b"notbuilt\n",
+            true,
+        ),
+        (
+            &[b"run", b"p", b"f", b"000000000000000000001"],
+            Status::Usage,
+            b"usage\n",
+            false,
+        ),
         (&[b"drive", b"s"], Status::NotBuilt, b"notbuilt\n", true),
         (&[b"drive", b""], Status::Usage, b"usage\n", false),
-        (&[b"check", b"s", b"h"], Status::NotBuilt, b"notbuilt\n", false),
-        (&[b"made", b"3", b"1", b"2"], Status::NotBuilt, b"notbuilt\n", true),
-        (&[b"made", b"200000", b"2147483647", b"1"], Status::NotBuilt, b"notbuilt\n", true),
-        (&[b"made", b"200001", b"1", b"2"], Status::Usage, b"usage\n", false),
-        (&[b"made", b"3", b"2147483648", b"2"], Status::Usage, b"usage\n", false),
+        (
+            &[b"check", b"s", b"h"],
+            Status::NotBuilt,
+            b"notbuilt\n",
+            false,
+        ),
+        (
+            &[b"made", b"3", b"1", b"2"],
+            Status::NotBuilt,
+            b"notbuilt\n",
+            true,
+        ),
+        (
+            &[b"made", b"200000", b"2147483647", b"1"],
+            Status::NotBuilt,
+            b"notbuilt\n",
+            true,
+        ),
+        (
+            &[b"made", b"200001", b"1", b"2"],
+            Status::Usage,
+            b"usage\n",
+            false,
+        ),
+        (
+            &[b"made", b"3", b"2147483648", b"2"],
+            Status::Usage,
+            b"usage\n",
+            false,
+        ),
     ];
     for (words, status, text, waiting) in table {
         let words = words_of(alloc, words)?;
@@ -197,7 +284,11 @@ fn a_failed_put_leaves_the_front_of_the_text(rt: HostRuntime) -> Result<(), Fail
         let mut out = MemSink::new(alloc, 8);
         out.fail_at(call as u64)?;
         let status = run_plain(alloc, &words, &mut shelf, &mut out);
-        let want = if call < 8 { Status::WriteFault } else { Status::Done };
+        let want = if call < 8 {
+            Status::WriteFault
+        } else {
+            Status::Done
+        };
         assert_eq!(rt; status, want, "at put {call}");
         assert_eq!(rt; out.taken(), &TEXT[..(8 * call).min(57)], "at put {call}");
     }

@@ -7,8 +7,8 @@ ghost use Rattle.record_cli.specs.Plain.{not_built, usage};
 ghost use Rattle.record_cli.specs.Statuses.{is_written};
 ghost use Rattle.record_cli.specs.declared.commands.Command.TheVariants.{Plain};
 
-use crate::computed::{Computed, not_built, usage};
 use crate::commands::{Command, command_of};
+use crate::computed::{Computed, not_built, usage};
 use crate::plain::plain;
 use crate::status::Status;
 use ho_base::Word;
