@@ -72,7 +72,8 @@ impl<T: Item> Channel<T> {
         callers: u32,
     ) -> Result<(Channel<T>, Pass), MakeRefused>
         requires callers { (0 < callers) × (callers ≤ 64) }
-        ensures made { IfOk result (λ made. made.1 ≡ first_pass made.0 (object.Bounded capacity mode) callers) }
+        ensures made { IfOk result (λ made. made.1 ≡
+            first_pass made.0 (object.Bounded capacity mode) callers) }
         ensures bad { (result ≡ Err BadCapacity) ↔ IsBadCapacity capacity }
     {
         if capacity == 0 || capacity > MOST_ITEMS {
@@ -103,7 +104,8 @@ impl<T: Item> Channel<T> {
         requires table { pass.old.table ≡ self.now }
         requires spare { 1 < held_count pass.old.held }
         ensures kept { pass.new ≡ record pass.old { held = give pass.old.held result.caller } }
-        ensures given { result ≡ record pass.old { caller = result.caller; held = only result.caller; met = [] } }
+        ensures given { result ≡
+            record pass.old { caller = result.caller; held = only result.caller; met = [] } }
         ensures spare { IsSpare pass.old.held pass.old.caller result.caller }
         ensures least { (c : ℕ) → c < result.caller → ¬ IsSpare pass.old.held pass.old.caller c }
     {
@@ -141,11 +143,13 @@ impl<T: Item> Channel<T> {
         ensures pass { IsSamePass pass.old pass.new }
         ensures counted { CountsOne pass.old pass.new }
 
-        ensures entry { IfOk result (λ r. Answers T.priority_of (λ tally. fits tally call r.0) pass.old
+        ensures entry { IfOk result (λ r. Answers T.priority_of
+            (λ tally. fits tally call r.0) pass.old
             (entry pass.old.caller (call_mark T.mark call) (reply_mark T.mark r.0)) r.1 pass.new) }
 
         ensures back { IfErr result (λ unpaid. unpaid.back ≡ call) }
-        ensures no_entry { OnErr result (AddsNoEntry T.priority_of pass.old pass.new × (pass.new.met ≡ pass.old.met)) }
+        ensures no_entry { OnErr result (AddsNoEntry T.priority_of pass.old pass.new
+            × (pass.new.met ≡ pass.old.met)) }
         ensures wanted { OnErr result (may_want pass.old.object (call_mark T.mark call) ≡ true) }
     {
         self.shared.call(rt, pass, call)

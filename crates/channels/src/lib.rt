@@ -19,3 +19,6 @@ pub use channel::{Channel, MakeRefused};
 pub use machine::ChannelMachine;
 pub use reader::{ReadReply, Reader};
 pub use writer::{WriteReply, Writer};
+
+#[cfg(test)]
+mod tests;

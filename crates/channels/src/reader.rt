@@ -63,7 +63,8 @@ impl<'c, T: Item> Reader<'c, T> {
     pub fn try_read<R: Wait>(&mut self, rt: &R) -> ReadReply<T>
         ensures pass { IsSamePass self.old self.new }
         ensures counted { CountsOne self.old self.new }
-        ensures entry { AddsOne T.priority_of self.old (entry self.old.caller Read (read_mark T.mark result)) self.new }
+        ensures entry { AddsOne T.priority_of self.old
+            (entry self.old.caller Read (read_mark T.mark result)) self.new }
     {
         match self.channel.call(rt, &mut self.pass, ChannelCall::Read) {
             Ok((ChannelReply::Item(item), _)) => ReadReply::Item(item),
@@ -77,7 +78,8 @@ impl<'c, T: Item> Reader<'c, T> {
     pub fn peek<R: Wait>(&mut self, rt: &R) -> Option<u64>
         ensures pass { IsSamePass self.old self.new }
         ensures counted { CountsOne self.old self.new }
-        ensures entry { AddsOne T.priority_of self.old (entry self.old.caller Peek (peek_mark result)) self.new }
+        ensures entry { AddsOne T.priority_of self.old
+            (entry self.old.caller Peek (peek_mark result)) self.new }
     {
         match self.channel.call(rt, &mut self.pass, ChannelCall::Peek) {
             Ok((ChannelReply::Shown(number), _)) => Some(number),
@@ -90,7 +92,8 @@ impl<'c, T: Item> Reader<'c, T> {
     pub fn count<R: Wait>(&mut self, rt: &R) -> u64
         ensures pass { IsSamePass self.old self.new }
         ensures counted { CountsOne self.old self.new }
-        ensures entry { AddsOne T.priority_of self.old (entry self.old.caller Count (Counted result)) self.new }
+        ensures entry { AddsOne T.priority_of self.old
+            (entry self.old.caller Count (Counted result)) self.new }
     {
         match self.channel.call(rt, &mut self.pass, ChannelCall::Count) {
             Ok((ChannelReply::Count(count), _)) => count,
@@ -102,7 +105,8 @@ impl<'c, T: Item> Reader<'c, T> {
     pub fn is_completed<R: Wait>(&mut self, rt: &R) -> bool
         ensures pass { IsSamePass self.old self.new }
         ensures counted { CountsOne self.old self.new }
-        ensures entry { AddsOne T.priority_of self.old (entry self.old.caller Completed (Flag result)) self.new }
+        ensures entry { AddsOne T.priority_of self.old
+            (entry self.old.caller Completed (Flag result)) self.new }
     {
         match self
             .channel

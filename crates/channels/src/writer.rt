@@ -69,10 +69,12 @@ impl<'c, T: Item> Writer<'c, T> {
     pub fn try_write<R: Wait>(&mut self, rt: &R, item: T) -> Result<WriteReply<T>, Unpaid<T>>
         ensures pass { IsSamePass self.old self.new }
         ensures counted { CountsOne self.old self.new }
-        ensures entry { IfOk result (λ reply. AddsOne T.priority_of self.old (entry self.old.caller (Write (T.mark item)) (write_mark T.mark reply)) self.new) }
+        ensures entry { IfOk result (λ reply. AddsOne T.priority_of self.old
+            (entry self.old.caller (Write (T.mark item)) (write_mark T.mark reply)) self.new) }
         ensures handed_back { IfOk result (HandsBack item) }
         ensures back { IfErr result (λ unpaid. unpaid.back ≡ item) }
-        ensures no_entry { OnErr result (AddsNoEntry T.priority_of self.old self.new × (self.new.met ≡ self.old.met)) }
+        ensures no_entry { OnErr result (AddsNoEntry T.priority_of self.old self.new
+            × (self.new.met ≡ self.old.met)) }
         ensures wanted { OnErr result (may_want self.old.object (Write (T.mark item)) ≡ true) }
     {
         match self
@@ -97,7 +99,8 @@ impl<'c, T: Item> Writer<'c, T> {
     pub fn try_complete<R: Wait>(&mut self, rt: &R, fault: Option<Fault>) -> bool
         ensures pass { IsSamePass self.old self.new }
         ensures counted { CountsOne self.old self.new }
-        ensures entry { AddsOne T.priority_of self.old (entry self.old.caller (CompleteWith (fault_number fault)) (Flag result)) self.new }
+        ensures entry { AddsOne T.priority_of self.old
+            (entry self.old.caller (CompleteWith (fault_number fault)) (Flag result)) self.new }
     {
         match self
             .channel

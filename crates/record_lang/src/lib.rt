@@ -4,8 +4,8 @@
 //! without a header. `docs/FORMATS.md` tells both languages whole. This crate promises upward that a
 //! pipeline's text is its meaning or the first refused line, a record file its rows or the first
 //! refused row, a stage's answer the outcome of that stage, and the text that of the outcomes of all
-//! fed records. It stands on `ho_base`, on `csv` for rows, on `itoa` for
-//! digits and on `smallvec` for short fields.
+//! fed records. It stands on `ho_base`, on `csv` for rows, on `itoa` for digits and on `smallvec` for
+//! fields, of which most are short.
 #![tactic(auto)]
 
 mod causes;

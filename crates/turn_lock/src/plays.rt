@@ -15,7 +15,9 @@ impl<M: Stepper> TableRule<M, View, (Snapshot<M>, u64)> for Turns<M> {
     ghost use Rattle.turn_lock.specs.Rule.{Kept};
     ghost use Rattle.turn_lock.specs.Views.{first_view};
 
-    ghost holds = { λ key. Kept M.priority (StandsFor M.priority M.object M.callers M.state M.steps M.tally) (M.object key.0.value) key.1 };
+    ghost holds = { λ key. Kept M.priority
+        (StandsFor M.priority M.object M.callers M.state M.steps M.tally)
+        (M.object key.0.value) key.1 };
 
     ghost first = { λ key. first_view (M.object key.0.value) key.1 };
 }
@@ -36,7 +38,8 @@ impl<M: Stepper> Play<M, View> for Try {
     ghost use Rattle.ho_model.specs.Histories.{StandsFor};
     ghost use Rattle.turn_lock.specs.Plays.{tried};
 
-    ghost then = { tried M.priority (StandsFor M.priority M.object M.callers M.state M.steps M.tally) };
+    ghost then = { tried M.priority
+        (StandsFor M.priority M.object M.callers M.state M.steps M.tally) };
 }
 
 /// The same try in a call that goes on trying.
@@ -46,7 +49,8 @@ impl<M: Stepper> Play<M, View> for Grab {
     ghost use Rattle.ho_model.specs.Histories.{StandsFor};
     ghost use Rattle.turn_lock.specs.Plays.{grabbed};
 
-    ghost then = { grabbed M.priority (StandsFor M.priority M.object M.callers M.state M.steps M.tally) };
+    ghost then = { grabbed M.priority
+        (StandsFor M.priority M.object M.callers M.state M.steps M.tally) };
 }
 
 /// The next ticket is drawn.
@@ -65,7 +69,8 @@ impl<M: Stepper> Play<M, View> for Reach {
     ghost use Rattle.ho_model.specs.Histories.{StandsFor};
     ghost use Rattle.turn_lock.specs.Plays.{reached};
 
-    ghost then = { reached M.priority (StandsFor M.priority M.object M.callers M.state M.steps M.tally) };
+    ghost then = { reached M.priority
+        (StandsFor M.priority M.object M.callers M.state M.steps M.tally) };
 }
 
 /// Names the entry that a step makes. Each call picks it.

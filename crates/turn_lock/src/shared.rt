@@ -57,7 +57,8 @@ impl<M: Stepper> Shared<M> {
     /// machine comes back.
     pub fn new(alloc: Global, machine: M, callers: u32) -> Result<(Shared<M>, Pass), Unpaid<M>>
         requires callers { (0 < callers) × (callers ≤ 64) }
-        requires machine { StandsFor M.priority M.object M.callers M.state M.steps M.tally (M.object machine) callers machine [] }
+        requires machine { StandsFor M.priority M.object M.callers M.state M.steps M.tally
+            (M.object machine) callers machine [] }
         ensures ok { IfOk result (λ made. made.1 ≡ first_pass made.0 (M.object machine) callers) }
         ensures err { IfErr result (λ unpaid. unpaid.back ≡ machine) }
     {
@@ -100,11 +101,13 @@ impl<M: Stepper> Shared<M> {
         ensures pass { IsSamePass pass.old pass.new }
         ensures counted { CountsOne pass.old pass.new }
 
-        ensures entry { IfOk result (λ r. Answers M.priority (λ tally. M.fits tally call r.0) pass.old
+        ensures entry { IfOk result (λ r. Answers M.priority
+            (λ tally. M.fits tally call r.0) pass.old
             (entry pass.old.caller (M.call_mark call) (M.reply_mark r.0)) r.1 pass.new) }
 
         ensures back { IfErr result (λ unpaid. unpaid.back ≡ call) }
-        ensures no_entry { OnErr result (AddsNoEntry M.priority pass.old pass.new × (pass.new.met ≡ pass.old.met)) }
+        ensures no_entry { OnErr result (AddsNoEntry M.priority pass.old pass.new
+            × (pass.new.met ≡ pass.old.met)) }
         ensures wanted { OnErr result (M.may_want pass.old.object (M.call_mark call) ≡ true) }
     {
         let caller = pass.caller;
@@ -172,7 +175,8 @@ impl<M: Stepper> Shared<M> {
         requires table { pass.old.table ≡ self.now }
         requires spare { 1 < held_count pass.old.held }
         ensures kept { pass.new ≡ record pass.old { held = give pass.old.held result.caller } }
-        ensures given { result ≡ record pass.old { caller = result.caller; held = only result.caller; met = [] } }
+        ensures given { result ≡
+            record pass.old { caller = result.caller; held = only result.caller; met = [] } }
         ensures spare { IsSpare pass.old.held pass.old.caller result.caller }
         ensures least { (c : ℕ) → c < result.caller → ¬ IsSpare pass.old.held pass.old.caller c }
     {
@@ -225,7 +229,8 @@ impl<M: Stepper> Shared<M> {
     pub fn close(self, pass: Pass) -> M
         requires table { pass.table ≡ self }
         requires whole { IsWhole pass }
-        ensures { StandsFor M.priority M.object M.callers M.state M.steps M.tally pass.object pass.callers result pass.seen }
+        ensures { StandsFor M.priority M.object M.callers M.state M.steps M.tally pass.object
+            pass.callers result pass.seen }
     {
         let Shared { table } = self;
         let Pass {

@@ -46,7 +46,8 @@ pub fn look<M: Stepper>(board: &Board<M>, seat: &mut Seat<M>) -> u64
     requires table { IsFor board.now.table_id seat.old }
     requires idle { seat.old.me.0.turn ≡ Idle }
     ensures same { IsSame seat.old seat.new }
-    ensures seen { (seat.new.me ≡ (in_turn seat.old.me.0 (Looked result), seat.old.me.1)) × (result < 2 ^ 60) }
+    ensures seen { (seat.new.me ≡ (in_turn seat.old.me.0 (Looked result), seat.old.me.1))
+        × (result < 2 ^ 60) }
 {
     board.load::<Look>(seat, SERVING)
 }
@@ -59,9 +60,13 @@ pub fn try_ticket<M: Stepper>(board: &Board<M>, seat: &mut Seat<M>, serving: u64
     requires active { HasNumber seat.old.me.0.held seat.old.me.0.caller }
     requires spare { slice_index seat.old.me.0.made seat.old.me.0.caller < 2 ^ 48 }
     ensures same { IsSame seat.old seat.new }
-    ensures won { result ≡ serving → Got M.priority (StandsFor M.priority M.object M.callers M.state M.steps M.tally) (counted seat.old.me.0) seat.old.me.1 serving seat.new.me }
-    ensures lost { result ≢ serving → (seat.new.me ≡ (met seat.old.me.0 serving result, seat.old.me.1)) × (serving < result)
-        × (¬ IsWhole seat.old.me.0) × IsLawful M.priority seat.old.me.0.object seat.old.me.0.callers seat.old.me.0.seen }
+    ensures won { result ≡ serving →
+        Got M.priority (StandsFor M.priority M.object M.callers M.state M.steps M.tally)
+        (counted seat.old.me.0) seat.old.me.1 serving seat.new.me }
+    ensures lost { result ≢ serving → (seat.new.me ≡
+        (met seat.old.me.0 serving result, seat.old.me.1)) × (serving < result)
+        × (¬ IsWhole seat.old.me.0)
+        × IsLawful M.priority seat.old.me.0.object seat.old.me.0.callers seat.old.me.0.seen }
 {
     board.compare_exchange::<Try>(seat, TICKET, serving, serving + 1)
 }
@@ -73,7 +78,9 @@ pub fn grab_ticket<M: Stepper>(board: &Board<M>, seat: &mut Seat<M>, serving: u6
     requires active { HasNumber seat.old.me.0.held seat.old.me.0.caller }
     requires spare { slice_index seat.old.me.0.made seat.old.me.0.caller < 2 ^ 48 }
     ensures same { IsSame seat.old seat.new }
-    ensures won { result ≡ serving → Got M.priority (StandsFor M.priority M.object M.callers M.state M.steps M.tally) (counted seat.old.me.0) seat.old.me.1 serving seat.new.me }
+    ensures won { result ≡ serving →
+        Got M.priority (StandsFor M.priority M.object M.callers M.state M.steps M.tally)
+        (counted seat.old.me.0) seat.old.me.1 serving seat.new.me }
     ensures lost { result ≢ serving → seat.new.me ≡ (in_turn seat.old.me.0 Idle, seat.old.me.1) }
 {
     board.compare_exchange::<Grab>(seat, TICKET, serving, serving + 1)
@@ -96,7 +103,9 @@ pub fn reach<M: Stepper>(board: &Board<M>, seat: &mut Seat<M>, turn: u64) -> u64
     requires table { IsFor board.now.table_id seat.old }
     requires turn { seat.old.me.0.turn ≡ Drawn turn }
     ensures same { IsSame seat.old seat.new }
-    ensures now { result ≡ turn → Got M.priority (StandsFor M.priority M.object M.callers M.state M.steps M.tally) seat.old.me.0 seat.old.me.1 turn seat.new.me }
+    ensures now { result ≡ turn →
+        Got M.priority (StandsFor M.priority M.object M.callers M.state M.steps M.tally)
+        seat.old.me.0 seat.old.me.1 turn seat.new.me }
     ensures not { result ≢ turn → seat.new.me ≡ seat.old.me }
 {
     let _ = turn;
@@ -113,10 +122,15 @@ pub fn enter<M: Stepper, E: Naming>(
 ) -> u64
     requires table { IsFor board.now.table_id seat.old }
     requires turn { seat.old.me.0.turn ≡ Holds turn }
-    requires entry { E.entry ≡ entry seat.old.me.0.caller (M.call_mark call.now.value) (M.reply_mark reply.now) }
+    requires entry { E.entry ≡
+        entry seat.old.me.0.caller (M.call_mark call.now.value) (M.reply_mark reply.now) }
     requires legal { IsLegal M.priority seat.old.me.0.object (seat.old.me.0.seen ++ E.entry ∷ []) }
     ensures same { IsSame seat.old seat.new }
-    ensures entry { seat.new.me ≡ (entered seat.old.me.0 turn (entry seat.old.me.0.caller (M.call_mark call.now.value) (M.reply_mark reply.now)), seat.old.me.1) }
+    ensures entry { seat.new.me ≡ (
+      entered seat.old.me.0 turn (entry seat.old.me.0.caller (M.call_mark call.now.value)
+          (M.reply_mark reply.now)),
+      seat.old.me.1,
+    ) }
     ensures number { result ≡ length seat.old.me.0.seen }
 {
     let _ = call;
@@ -129,7 +143,8 @@ pub fn leave<M: Stepper>(board: &Board<M>, seat: &mut Seat<M>, turn: u64)
     requires table { IsFor board.now.table_id seat.old }
     requires turn { HasTurn seat.old.me.0.turn turn }
     requires machine { (x : M) × (seat.old.me.1 ≡ (0, x) ∷ [])
-        × StandsFor M.priority M.object M.callers M.state M.steps M.tally seat.old.me.0.object seat.old.me.0.callers x seat.old.me.0.seen }
+        × StandsFor M.priority M.object M.callers M.state M.steps M.tally seat.old.me.0.object
+        seat.old.me.0.callers x seat.old.me.0.seen }
     ensures same { IsSame seat.old seat.new }
     ensures left { seat.new.me ≡ (in_turn seat.old.me.0 Idle, []) }
 {
@@ -142,8 +157,10 @@ pub fn give<M: Stepper, N: Numbered>(board: &Board<M>, seat: &mut Seat<M>, numbe
     requires number { N.number ≡ number }
     requires idle { seat.old.me.0.turn ≡ Idle }
     requires spare { IsSpare seat.old.me.0.held seat.old.me.0.caller number }
-    ensures left { IsSame seat.old seat.new × (seat.new.me ≡ (without seat.old.me.0 number, seat.old.me.1)) }
-    ensures right { (result.table_id ≡ seat.old.table_id) × (result.me ≡ (alone seat.old.me.0 number, [])) }
+    ensures left { IsSame seat.old seat.new
+        × (seat.new.me ≡ (without seat.old.me.0 number, seat.old.me.1)) }
+    ensures right { (result.table_id ≡ seat.old.table_id)
+        × (result.me ≡ (alone seat.old.me.0 number, [])) }
 {
     let _ = number;
     board.split_seat::<Give<N>>(seat)
@@ -154,9 +171,12 @@ pub fn take_in<M: Stepper, L: Leaving>(board: &Board<M>, seat: &mut Seat<M>, oth
     requires table { IsFor board.now.table_id seat.old × IsFor board.now.table_id other }
     requires last { L.last ≡ other.me.0 }
     requires idle { (seat.old.me.0.turn ≡ Idle) × (other.me.0.turn ≡ Idle) × (other.me.1 ≡ []) }
-    ensures same { IsSame seat.old seat.new × (seat.new.me ≡ (in_turn (joined seat.old.me.0 other.me.0) Idle, seat.old.me.1)) }
-    ensures told { Meet seat.old.me.0.held other.me.0.held seat.old.me.0.seen other.me.0.seen (joined seat.old.me.0 other.me.0).seen
-        × IsLawful M.priority seat.old.me.0.object seat.old.me.0.callers (joined seat.old.me.0 other.me.0).seen }
+    ensures same { IsSame seat.old seat.new
+        × (seat.new.me ≡ (in_turn (joined seat.old.me.0 other.me.0) Idle, seat.old.me.1)) }
+    ensures told { Meet seat.old.me.0.held other.me.0.held seat.old.me.0.seen other.me.0.seen
+        (joined seat.old.me.0 other.me.0).seen
+        × IsLawful M.priority seat.old.me.0.object seat.old.me.0.callers
+        (joined seat.old.me.0 other.me.0).seen }
 {
     board.join_seat::<TakeIn<L>>(seat, other);
     board.load::<Tell>(seat, SERVING);

@@ -43,14 +43,23 @@ pub fn serve<M: Stepper>(
     requires turn { seat.old.me.0.turn ≡ Holds turn }
     requires caller { (seat.old.me.0.caller ≡ caller) × (caller < seat.old.me.0.callers) }
     requires machine { (x : M) × (seat.old.me.1 ≡ (0, x) ∷ [])
-        × StandsFor M.priority M.object M.callers M.state M.steps M.tally seat.old.me.0.object seat.old.me.0.callers x seat.old.me.0.seen }
+        × StandsFor M.priority M.object M.callers M.state M.steps M.tally seat.old.me.0.object
+        seat.old.me.0.callers x seat.old.me.0.seen }
     requires short { length seat.old.me.0.seen < 2 ^ 60 }
-    requires lawful { IsLawful M.priority seat.old.me.0.object seat.old.me.0.callers seat.old.me.0.seen }
+    requires lawful { IsLawful M.priority seat.old.me.0.object seat.old.me.0.callers
+        seat.old.me.0.seen }
     ensures same { IsSame seat.old seat.new }
-    ensures ok { IfOk result (λ r. (seat.new.me ≡ (in_turn (entered seat.old.me.0 turn (entry caller (M.call_mark call) (M.reply_mark r.0))) Idle, []))
-        × IsLawful M.priority seat.old.me.0.object seat.old.me.0.callers (seat.old.me.0.seen ++ entry caller (M.call_mark call) (M.reply_mark r.0) ∷ [])
-        × M.fits (tally_of seat.old.me.0.seen) call r.0 × (r.1 ≡ Place (length seat.old.me.0.seen))) }
-    ensures err { IfErr result (λ unpaid. (seat.new.me ≡ (in_turn seat.old.me.0 Idle, [])) × (unpaid.back ≡ call) × (M.may_want seat.old.me.0.object (M.call_mark call) ≡ true)) }
+    ensures ok { IfOk result (λ r. (seat.new.me ≡ (
+      in_turn (entered seat.old.me.0 turn (entry caller (M.call_mark call)
+          (M.reply_mark r.0))) Idle,
+      [],
+    ))
+        × IsLawful M.priority seat.old.me.0.object seat.old.me.0.callers
+        (seat.old.me.0.seen ++ entry caller (M.call_mark call) (M.reply_mark r.0) ∷ [])
+        × M.fits (tally_of seat.old.me.0.seen) call r.0
+        × (r.1 ≡ Place (length seat.old.me.0.seen))) }
+    ensures err { IfErr result (λ unpaid. (seat.new.me ≡ (in_turn seat.old.me.0 Idle, []))
+        × (unpaid.back ≡ call) × (M.may_want seat.old.me.0.object (M.call_mark call) ≡ true)) }
 {
     let said = Snapshot::of(&call);
     match seat.slot_mut(board, 0).take_step(caller, call) {
@@ -82,9 +91,11 @@ pub fn try_turn<M: Stepper>(
     ensures home { seat.new.me.1 ≡ [] }
     ensures answer { IfAnswer result (λ reply receipt.
         Made M.priority (λ tally. M.fits tally call reply) seat.old.me.0 (entry caller (M.call_mark call) (M.reply_mark reply)) receipt seat.new.me.0) }
-    ensures busy { IfBusy result (λ back. (back ≡ call) × Missed M.priority seat.old.me.0 seat.new.me.0) }
+    ensures busy { IfBusy result (λ back. (back ≡ call)
+        × Missed M.priority seat.old.me.0 seat.new.me.0) }
     ensures spent { IfSpent result (λ back. ⊥) }
-    ensures unpaid { IfNoMemory result (λ back. (back ≡ call) × GaveUp M.priority seat.old.me.0 seat.new.me.0
+    ensures unpaid { IfNoMemory result (λ back. (back ≡ call)
+        × GaveUp M.priority seat.old.me.0 seat.new.me.0
         × (M.may_want seat.old.me.0.object (M.call_mark call) ≡ true)) }
 {
     let serving = look(board, seat);
@@ -105,7 +116,8 @@ fn gain<M: Stepper, R: Wait>(rt: &R, board: &Board<M>, seat: &mut Seat<M>) -> u6
     requires active { HasNumber seat.old.me.0.held seat.old.me.0.caller }
     requires spare { slice_index seat.old.me.0.made seat.old.me.0.caller < 2 ^ 48 }
     ensures same { IsSame seat.old seat.new }
-    ensures now { Got M.priority (StandsFor M.priority M.object M.callers M.state M.steps M.tally) (counted seat.old.me.0) seat.old.me.1 result seat.new.me }
+    ensures now { Got M.priority (StandsFor M.priority M.object M.callers M.state M.steps M.tally)
+        (counted seat.old.me.0) seat.old.me.1 result seat.new.me }
 {
     let backoff = Backoff::new();
     for _ in 0..TRIES {
@@ -138,7 +150,9 @@ fn wait_for<M: Stepper, R: Wait>(rt: &R, board: &Board<M>, seat: &mut Seat<M>, t
     requires table { IsFor board.now.table_id seat.old }
     requires turn { seat.old.me.0.turn ≡ Drawn turn }
     ensures same { IsSame seat.old seat.new }
-    ensures now { Got M.priority (StandsFor M.priority M.object M.callers M.state M.steps M.tally) seat.old.me.0 seat.old.me.1 turn seat.new.me }
+    ensures now { Got M.priority
+        (StandsFor M.priority M.object M.callers M.state M.steps M.tally) seat.old.me.0
+        seat.old.me.1 turn seat.new.me }
 {
     let backoff = Backoff::new();
     for _ in rt.forever() {
@@ -167,7 +181,8 @@ pub fn take_turn<M: Stepper, R: Wait>(
     ensures home { seat.new.me.1 ≡ [] }
     ensures ok { IfOk result (λ r.
         Made M.priority (λ tally. M.fits tally call r.0) seat.old.me.0 (entry caller (M.call_mark call) (M.reply_mark r.0)) r.1 seat.new.me.0) }
-    ensures err { IfErr result (λ unpaid. (unpaid.back ≡ call) × GaveUp M.priority seat.old.me.0 seat.new.me.0
+    ensures err { IfErr result (λ unpaid. (unpaid.back ≡ call)
+        × GaveUp M.priority seat.old.me.0 seat.new.me.0
         × (M.may_want seat.old.me.0.object (M.call_mark call) ≡ true)) }
 {
     let turn = gain(rt, board, seat);
