@@ -6,7 +6,7 @@ use Rattle.ho_model.specs.declared.objects.Object.TheVariants as object
 use Rattle.ho_model.specs.Objects as objects
 use Rattle.ho_base.specs.Marks.{Mark}
 use Rattle.ho_model.specs.declared.marks.EntryMark.{EntryMark}
-use Rattle.ho_model.specs.Channel.{is_wait, Standing, WantsItem, WantsRoom, LooksForItem, LooksForRoom, Answered, Channel, Kind, Outcome, is_full, drops}
+use Rattle.ho_model.specs.Channel.{is_wait, Standing, WantsItem, WantsRoom, LooksForItem, LooksForRoom, Answered, Channel, Kind, is_full, drops}
 use Rattle.ho_model.specs.Histories.{state_after}
 
 -- a wait for an item stands unanswered only with an empty buffer, one for room only with a full one
