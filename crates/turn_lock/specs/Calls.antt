@@ -18,16 +18,20 @@ pub record IsSamePass (p q : PassView) : Type 0 where
   pub caller : q.caller ≡ p.caller
   pub held : q.held ≡ p.held
 
--- After an answer: what was seen goes on with entries of other callers, which makes `before`, and
--- then with this call's own entry. The receipt is its place, the reply fits the counts before it,
--- and all that is seen is legal.
-pub record AddsEntry (priority : Mark → ℕ) (fits : Tally → Type 0) (p : PassView) (e : EntryMark) (receipt : Receipt) (q : PassView) : Type 0 where
-  pub before : List EntryMark
+-- One entry more: what was seen goes on with entries of other callers, which makes `before`, and
+-- then with this call's own entry. All that is seen is legal.
+pub record AddsEntry (priority : Mark → ℕ) (p : PassView) (before : List EntryMark) (e : EntryMark) (q : PassView) : Type 0 where
   pub seen : SeesEntry p.held p.seen before e q.seen
-  pub place : receipt ≡ Place (length before)
-  pub fitting : fits (tally_of before)
   pub lawful : IsLawful priority p.object p.callers q.seen
   pub met : q.met ≡ p.met
+
+-- After an answer: one entry more. The receipt is its place, and the reply fits the counts before it.
+abbrev pub Answers : (Mark → ℕ) → (Tally → Type 0) → PassView → EntryMark → Receipt → PassView → Type 0
+Answers priority fits p e receipt q = (before : List EntryMark) × AddsEntry priority p before e q × (receipt ≡ Place (length before)) × fits (tally_of before)
+
+-- The same where the receipt is kept back.
+abbrev pub AddsOne : (Mark → ℕ) → PassView → EntryMark → PassView → Type 0
+AddsOne priority p e q = (before : List EntryMark) × AddsEntry priority p before e q
 
 -- After a refusal: what was seen goes on with entries of other callers alone, and is legal.
 pub record AddsNoEntry (priority : Mark → ℕ) (p q : PassView) : Type 0 where

@@ -49,7 +49,7 @@ impl<M: Stepper> Shared<M> {
     ghost use Rattle.passes.specs.Seen.{SeesOthers, IsLawful, longer};
     ghost use Rattle.turn_lock.specs.Attempts.{IfAnswer, IfBusy, IfSpent, IfNoMemory, IsSpent};
     ghost use Rattle.turn_lock.specs.Passes.{IsWhole, first_pass};
-    ghost use Rattle.turn_lock.specs.Calls.{IsSamePass, AddsEntry, AddsNoEntry, CountsOne, MeetsObstacle, HasNoCallLeft};
+    ghost use Rattle.turn_lock.specs.Calls.{IsSamePass, Answers, AddsNoEntry, CountsOne, MeetsObstacle, HasNoCallLeft};
 
     /// Shares a machine that stands for the empty history among callers 0 up to `callers`.
     ///
@@ -100,7 +100,7 @@ impl<M: Stepper> Shared<M> {
         ensures pass { IsSamePass pass.old pass.new }
         ensures counted { CountsOne pass.old pass.new }
 
-        ensures entry { IfOk result (λ r. AddsEntry M.priority (λ tally. M.fits tally call r.0) pass.old
+        ensures entry { IfOk result (λ r. Answers M.priority (λ tally. M.fits tally call r.0) pass.old
             (entry pass.old.caller (M.call_mark call) (M.reply_mark r.0)) r.1 pass.new) }
 
         ensures back { IfErr result (λ unpaid. unpaid.back ≡ call) }
@@ -131,7 +131,7 @@ impl<M: Stepper> Shared<M> {
         ensures pass { IsSamePass pass.old pass.new }
 
         ensures answer { IfAnswer result (λ reply receipt. CountsOne pass.old pass.new
-            × AddsEntry M.priority (λ tally. M.fits tally call reply) pass.old
+            × Answers M.priority (λ tally. M.fits tally call reply) pass.old
             (entry pass.old.caller (M.call_mark call) (M.reply_mark reply)) receipt pass.new) }
 
         ensures busy { IfBusy result (λ back. (back ≡ call)
