@@ -25,3 +25,6 @@ pub use attempt::Attempt;
 pub use pass::Pass;
 pub use shared::Shared;
 pub use view::{Obstacle, Turn, View};
+
+#[cfg(test)]
+mod tests;
