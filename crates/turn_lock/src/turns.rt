@@ -9,7 +9,7 @@ ghost use Rattle.passes.specs.Seen.{IsLawful};
 ghost use Rattle.turn_lock.specs.declared.view.Turn.TheVariants.{Idle, Drawn, Holds};
 ghost use Rattle.turn_lock.specs.Views.{in_turn, counted, entered};
 ghost use Rattle.turn_lock.specs.Plays.{Got};
-ghost use Rattle.turn_lock.specs.Seats.{IsFor, IsSame};
+ghost use Rattle.turn_lock.specs.Seats.{HasWords, IsFor, IsSame};
 ghost use Rattle.turn_lock.specs.Turns.{Made, GaveUp, Missed};
 ghost use Rattle.turn_lock.specs.Attempts.{IfAnswer, IfBusy, IfSpent, IfNoMemory};
 
@@ -24,9 +24,11 @@ use std::marker::Brand;
 use std::snapshot::Snapshot;
 use std::sync::Wait;
 
-/// How often a call tries for a free turn before it draws a ticket. With more callers than cores
-/// the next ticket is often that of a caller that does not run, and all others wait for it; a try
-/// waits for nobody.
+/// How many exchanges a call loses before it draws a ticket.
+///
+/// With more callers than cores the next ticket is often that of a caller that does not run, and all
+/// others wait for it. Who tries waits for nobody: it looks until the turn seems free, and only then
+/// tries the exchange.
 const TRIES: u32 = 64;
 
 /// Lets the machine take a call under the turn, makes the entry and gives the turn back.
@@ -107,17 +109,28 @@ fn gain<M: Stepper, R: Wait>(rt: &R, board: &Board<M>, seat: &mut Seat<M>) -> u6
 {
     let backoff = Backoff::new();
     for _ in 0..TRIES {
-        if seems_free(board) {
-            let serving = look(board, seat);
-            if grab_ticket(board, seat, serving) == serving {
-                return serving;
-            }
+        await_free(rt, board, &backoff);
+        let serving = look(board, seat);
+        if grab_ticket(board, seat, serving) == serving {
+            return serving;
         }
-        backoff.snooze();
     }
     let turn = draw(board, seat);
     wait_for(rt, board, seat, turn);
     turn
+}
+
+/// Waits until the turn seems free.
+fn await_free<M: Stepper, R: Wait>(rt: &R, board: &Board<M>, backoff: &Backoff)
+    requires { HasWords board.now.table_id }
+{
+    for _ in rt.forever() {
+        if seems_free(board) {
+            return;
+        }
+        backoff.snooze();
+    }
+    unreachable!()
 }
 
 /// Waits until the ticket is served.
