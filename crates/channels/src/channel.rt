@@ -26,7 +26,7 @@ const MOST_ITEMS: u32 = 65_536;
 /// as a `Shared` is.
 #[derive(Drop)]
 pub struct Channel<T: Item> {
-    shared: Shared<ChannelMachine<T>>,
+    pub(crate) shared: Shared<ChannelMachine<T>>,
 }
 
 impl<T: Item> Model for Channel<T> {

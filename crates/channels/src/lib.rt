@@ -2,7 +2,8 @@
 //!
 //! A [`Channel`] is unbounded, bounded in one of four modes, or prioritized. A caller makes any call
 //! by its pass, or hands the pass to a [`Writer`] or a [`Reader`], which have the calls of .NET's
-//! `ChannelWriter<T>` and `ChannelReader<T>` that need no wait.
+//! `ChannelWriter<T>` and `ChannelReader<T>` that need no wait. Any call can also be tried once, without
+//! waiting for the turn, and [`Side`] is what a writer and a reader have in common.
 //!
 //! It stands on `turn_lock` for the sharing, and on `channel_core` and `priority_core` for the two
 //! machines under it. It promises upward that each call meets the turn lock's clauses with the
@@ -13,11 +14,15 @@
 mod channel;
 mod machine;
 mod reader;
+mod sides;
+mod tries;
 mod writer;
 
 pub use channel::{Channel, MakeRefused};
 pub use machine::ChannelMachine;
 pub use reader::{ReadReply, Reader};
+pub use sides::Side;
+pub use tries::ChannelTry;
 pub use writer::{WriteReply, Writer};
 
 #[cfg(test)]

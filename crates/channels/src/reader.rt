@@ -22,8 +22,8 @@ pub enum ReadReply<T> {
 /// pass.
 #[derive(Drop)]
 pub struct Reader<'c, T: Item> {
-    channel: &'c Channel<T>,
-    pass: Pass,
+    pub(crate) channel: &'c Channel<T>,
+    pub(crate) pass: Pass,
 }
 
 impl<'c, T: Item> Model for Reader<'c, T> {

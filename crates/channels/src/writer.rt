@@ -25,8 +25,8 @@ pub enum WriteReply<T> {
 /// pass.
 #[derive(Drop)]
 pub struct Writer<'c, T: Item> {
-    channel: &'c Channel<T>,
-    pass: Pass,
+    pub(crate) channel: &'c Channel<T>,
+    pub(crate) pass: Pass,
 }
 
 impl<'c, T: Item> Model for Writer<'c, T> {

@@ -6,17 +6,19 @@ use Rattle.ho_base.specs.declared.receipts.Receipt.TheVariants.{Place}
 use Rattle.ho_model.specs.declared.marks.EntryMark.{EntryMark}
 use Rattle.ho_model.specs.declared.marks.Tally.{Tally}
 use Rattle.ho_model.specs.Tallies.{tally_of}
-use Rattle.passes.specs.Numbers.{raised}
+use Rattle.passes.specs.Numbers.{HasNumber, raised}
 use Rattle.passes.specs.Seen.{SeesOthers, SeesEntry, SeesOwn, IsLawful}
 use Rattle.turn_lock.specs.Passes.{PassView, IsWhole}
 
--- no call changes which object the pass is of, its caller, or the numbers that it holds
+-- no call changes which object the pass is of, its caller, or the numbers that it holds, of which its
+-- caller is one
 pub record IsSamePass (p q : PassView) : Type 0 where
   pub table : q.table ≡ p.table
   pub object : q.object ≡ p.object
   pub callers : q.callers ≡ p.callers
   pub caller : q.caller ≡ p.caller
   pub held : q.held ≡ p.held
+  pub own : HasNumber q.held q.caller
 
 -- One entry more: what was seen goes on with entries of other callers, which makes `before`, and
 -- then with this call's own entry. All that is seen is legal.

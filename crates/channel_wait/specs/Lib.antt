@@ -1,0 +1,5 @@
+pub mod Ends
+pub mod Open
+pub mod Own
+pub mod Standing
+pub mod Waits
