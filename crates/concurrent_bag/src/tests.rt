@@ -1,0 +1,87 @@
+// The worked rows of a bag, as calls of `step`.
+ghost use Rattle.std.specs.Prelude.{◌≡◌, ◌+◌, ◌^◌, ◌<◌, ◌≤◌};
+
+use super::*;
+use ho_model::Machine;
+use std::test::Fail;
+
+type Call = BagCall<u64>;
+
+type Reply = BagReply<u64>;
+
+/// A reply as a word and numbers, 0 where it has none. A snapshot is told by its length.
+fn told(reply: &Reply) -> (&'static str, u64, u32) {
+    match reply {
+        Reply::Done => ("done", 0, 0),
+        Reply::Full(item) => ("full", *item, 0),
+        Reply::Item { from, item } => ("item", *item, *from),
+        Reply::Empty => ("empty", 0, 0),
+        Reply::Count(count) => ("count", *count, 0),
+        Reply::Numbers(items) => ("items", items.as_slice().len() as u64, 0),
+    }
+}
+
+/// Whether a bag gives this reply to a call.
+fn answers(
+    bag: &mut BagMachine<u64>,
+    caller: u32,
+    call: Call,
+    reply: (&'static str, u64, u32),
+) -> bool
+    requires caller { caller < bag.old.callers }
+    requires short { bag.old.steps < 2 ^ 60 }
+    ensures callers { bag.new.callers ≡ bag.old.callers }
+    ensures steps { bag.new.steps ≤ bag.old.steps + 1 }
+{
+    match bag.step(caller, call) {
+        Ok(given) => told(&given) == reply,
+        Err(_) => false,
+    }
+}
+
+#[test]
+fn a_caller_without_items_takes_the_first_of_another(rt: HostRuntime) -> Result<(), Fail> {
+    let mut bag = BagMachine::new(rt.alloc(), 2)?;
+    assert!(rt; answers(&mut bag, 0, Call::Add(1), ("done", 0, 0)));
+    assert!(rt; answers(&mut bag, 0, Call::Add(2), ("done", 0, 0)));
+    assert!(rt;
+        matches!(bag.step(1, Call::Snap), Ok(Reply::Numbers(items)) if items.as_slice() == [1, 2].as_slice())
+    );
+    assert!(rt; answers(&mut bag, 1, Call::Take, ("item", 1, 0)));
+    assert!(rt; answers(&mut bag, 0, Call::Take, ("item", 2, 0)));
+    assert!(rt; answers(&mut bag, 0, Call::Take, ("empty", 0, 0)));
+    assert!(rt; answers(&mut bag, 1, Call::Take, ("empty", 0, 0)));
+    assert!(rt; answers(&mut bag, 1, Call::Count, ("count", 0, 0)));
+    assert!(rt; answers(&mut bag, 1, Call::Snap, ("items", 0, 0)));
+    Ok(())
+}
+
+#[test]
+fn a_caller_takes_its_own_last_item_first(rt: HostRuntime) -> Result<(), Fail> {
+    let mut bag = BagMachine::new(rt.alloc(), 64)?;
+    assert!(rt; answers(&mut bag, 0, Call::Add(1), ("done", 0, 0)));
+    assert!(rt; answers(&mut bag, 63, Call::Add(2), ("done", 0, 0)));
+    assert!(rt; answers(&mut bag, 63, Call::Add(3), ("done", 0, 0)));
+    assert!(rt; answers(&mut bag, 0, Call::Count, ("count", 3, 0)));
+    assert!(rt; answers(&mut bag, 63, Call::Take, ("item", 3, 63)));
+    assert!(rt; answers(&mut bag, 63, Call::Take, ("item", 2, 63)));
+    assert!(rt; answers(&mut bag, 63, Call::Take, ("item", 1, 0)));
+    Ok(())
+}
+
+#[test]
+fn a_list_is_full_at_its_limit_and_others_are_not(rt: HostRuntime) -> Result<(), Fail> {
+    let mut bag = BagMachine::new(rt.alloc(), 2)?;
+    let mut all_added = true;
+    for item in 0..16_383u64 {
+        if !matches!(bag.step(0, Call::Add(item)), Ok(Reply::Done)) {
+            all_added = false;
+        }
+    }
+    assert!(rt; all_added);
+    assert!(rt; answers(&mut bag, 0, Call::Add(7), ("full", 7, 0)));
+    assert!(rt; answers(&mut bag, 1, Call::Add(8), ("done", 0, 0)));
+    assert!(rt; answers(&mut bag, 0, Call::Take, ("item", 16_382, 0)));
+    assert!(rt; answers(&mut bag, 0, Call::Add(7), ("done", 0, 0)));
+    Ok(())
+}
