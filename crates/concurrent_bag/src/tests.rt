@@ -69,16 +69,25 @@ fn a_caller_takes_its_own_last_item_first(rt: HostRuntime) -> Result<(), Fail> {
     Ok(())
 }
 
+/// Whether a bag takes so many items, from 0, into the list of caller 0.
+fn fills(bag: &mut BagMachine<u64>, count: u64) -> bool
+    requires caller { 0 < bag.old.callers }
+    requires short { bag.old.steps + count < 2 ^ 60 }
+    ensures callers { bag.new.callers ≡ bag.old.callers }
+    ensures steps { bag.new.steps ≤ bag.old.steps + count }
+{
+    for item in 0..count {
+        if !answers(bag, 0, Call::Add(item), ("done", 0, 0)) {
+            return false;
+        }
+    }
+    true
+}
+
 #[test]
 fn a_list_is_full_at_its_limit_and_others_are_not(rt: HostRuntime) -> Result<(), Fail> {
     let mut bag = BagMachine::new(rt.alloc(), 2)?;
-    let mut all_added = true;
-    for item in 0..16_383u64 {
-        if !matches!(bag.step(0, Call::Add(item)), Ok(Reply::Done)) {
-            all_added = false;
-        }
-    }
-    assert!(rt; all_added);
+    assert!(rt; fills(&mut bag, 16_383));
     assert!(rt; answers(&mut bag, 0, Call::Add(7), ("full", 7, 0)));
     assert!(rt; answers(&mut bag, 1, Call::Add(8), ("done", 0, 0)));
     assert!(rt; answers(&mut bag, 0, Call::Take, ("item", 16_382, 0)));
