@@ -1,0 +1,21 @@
+//! Channels that up to 64 callers share, each call one entry of one legal history.
+//!
+//! A [`Channel`] is unbounded, bounded in one of four modes, or prioritized. A caller makes any call
+//! by its pass, or hands the pass to a [`Writer`] or a [`Reader`], which have the calls of .NET's
+//! `ChannelWriter<T>` and `ChannelReader<T>` that need no wait.
+//!
+//! It stands on `turn_lock` for the sharing, and on `channel_core` and `priority_core` for the two
+//! machines under it. It promises upward that each call meets the turn lock's clauses with the
+//! channel call of its name: what the pass has seen goes on with entries of other callers and then
+//! with that call and its reply, and all of it is legal for the channel.
+#![tactic(auto)]
+
+mod channel;
+mod machine;
+mod reader;
+mod writer;
+
+pub use channel::{Channel, MakeRefused};
+pub use machine::ChannelMachine;
+pub use reader::{ReadReply, Reader};
+pub use writer::{WriteReply, Writer};

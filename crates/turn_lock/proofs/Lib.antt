@@ -1,0 +1,9 @@
+pub mod TurnFacts
+pub mod Laws
+pub mod Tickets
+pub mod Holding
+pub mod Joining
+pub mod Ends
+pub mod Serving
+pub mod Halves
+pub mod Told
