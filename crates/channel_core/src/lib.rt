@@ -13,6 +13,9 @@
 //! store takes). Begins, polls and cancels are at most linear in the waits that stand; only a begin
 //! allocates for a wait.
 //!
+//! What the contracts leave free is want of memory: a maker that always answered `NoMemory` would be
+//! proved, so tests show that a channel is made and answers where there is memory.
+//!
 //! Stands on `ho_model`, which says what a channel is, and on `circular_buffer`.
 #![tactic(auto)]
 

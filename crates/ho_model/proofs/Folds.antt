@@ -12,30 +12,29 @@ and_some : {A : Type 0} (x : Option A) → option_and_then (λ n. Some n) x ≡ 
 and_some None = refl
 and_some (Some a) = refl
 
--- what holds of the next state holds of the step that leads to it
-bind_step : (next : Option State) (f g : State → Option State) (t : State) (r : Option State) → ((n : State) → f n ≡ Some t → g n ≡ r) → option_and_then f next ≡ Some t → option_and_then g next ≡ r
-bind_step None f g t r k h = cc
-bind_step (Some n) f g t r k h = k n h
+-- what a chain of two steps gives went by the first
+pub and_then_some : {A B : Type 0} (f : A → Option B) (first : Option A) (t : B) → option_and_then f first ≡ Some t → (n : A) × (first ≡ Some n) × (f n ≡ Some t)
+and_then_some f None t h = let no : None ≡ Some t = h in cc
+and_then_some f (Some n) t h = (n, refl, h)
 
 -- a fold goes on where it stopped
 pub fold_append : (priority : Mark → ℕ) (o : Object) (s t : State) (es fs : List EntryMark) → fold_from priority o s es ≡ Some t → fold_from priority o s (es ++ fs) ≡ fold_from priority o t fs
 fold_append priority o s t [] fs h = let e : s ≡ t = cc in ap (λ u. fold_from priority o u fs) e
 fold_append priority o s t (e ∷ es) fs h =
-    bind_step (object_step priority o s e) (λ n. fold_from priority o n es) (λ n. fold_from priority o n (es ++ fs)) t (fold_from priority o t fs)
-    (λ n k. fold_append priority o n t es fs k) h
+    let by = and_then_some (λ n. fold_from priority o n es) (object_step priority o s e) t h in
+    ap (option_and_then (λ n. fold_from priority o n (es ++ fs))) by.1 ∙ fold_append priority o by.0 t es fs by.2
 
 -- one entry more
 pub folded-push : (priority : Mark → ℕ) (o : Object) (h : List EntryMark) (s : State) (e : EntryMark) → state_after priority o h ≡ Some s → state_after priority o (h ++ e ∷ []) ≡ object_step priority o s e
 folded-push priority o h s e is = fold_append priority o (empty_state o) s h (e ∷ []) is ∙ and_some (object_step priority o s e)
 
-begins_bind : (next : Option State) (f g : State → Option State) (t : State) → ((n : State) → f n ≡ Some t → (u : State) × (g n ≡ Some u)) → option_and_then f next ≡ Some t → (u : State) × (option_and_then g next ≡ Some u)
-begins_bind None f g t k h = absurd (cc h)
-begins_bind (Some n) f g t k h = k n h
-
-begins_from : (priority : Mark → ℕ) (o : Object) (s t : State) (xs ys : List EntryMark) → fold_from priority o s (xs ++ ys) ≡ Some t → (u : State) × (fold_from priority o s xs ≡ Some u)
+-- a beginning of entries that are accepted is accepted
+pub begins_from : (priority : Mark → ℕ) (o : Object) (s t : State) (xs ys : List EntryMark) → fold_from priority o s (xs ++ ys) ≡ Some t → (u : State) × (fold_from priority o s xs ≡ Some u)
 begins_from priority o s t [] ys h = (s, refl)
 begins_from priority o s t (e ∷ xs) ys h =
-    begins_bind (object_step priority o s e) (λ n. fold_from priority o n (xs ++ ys)) (λ n. fold_from priority o n xs) t (λ n k. begins_from priority o n t xs ys k) h
+    let by = and_then_some (λ n. fold_from priority o n (xs ++ ys)) (object_step priority o s e) t h in
+    let rest = begins_from priority o by.0 t xs ys by.2 in
+    (rest.0, ap (option_and_then (λ n. fold_from priority o n xs)) by.1 ∙ rest.1)
 
 -- a beginning of a legal history is legal
 pub legal_begins : (priority : Mark → ℕ) (o : Object) (xs ys : List EntryMark) → IsLegal priority o (xs ++ ys) → IsLegal priority o xs

@@ -5,6 +5,9 @@
 //! entries are equal, and ordered, by priority and arrival number alone, so that order and equality
 //! agree. `Write` and `Read` cost O(log n) without waits, `Peek` and `Count` O(1).
 //!
+//! Want of memory is the one free answer; tests show that a channel is made and answers where there is
+//! memory.
+//!
 //! Stands on `channel_core`, which has the rows of the channel's table, and on `ho_model`, which
 //! says what a prioritized channel is.
 #![tactic(auto)]

@@ -1,0 +1,119 @@
+-- What holds of every state that a history reaches.
+use Rattle.std.specs.Prelude.{◌≡◌, ℕ, ◌<◌, ◌↔◌, List, [], ◌∷◌, Bool, true, false, Option, Some, None, is_some, length, ◌==◌}
+use Rattle.std.specs.List.{AllByRecursion}
+use Rattle.std.proofs.Common.{refl, ap, sym, ◌∙◌, subst, arith}
+use Rattle.std.proofs.lemmas.Bool.{and_parts, eqb-true, both_ways}
+use Rattle.ho_model.specs.declared.objects.Object.{Object}
+use Rattle.ho_model.specs.declared.objects.Object.TheVariants as object
+use Rattle.ho_base.specs.Marks.{Mark}
+use Rattle.ho_model.specs.declared.marks.ReplyMark.{ReplyMark}
+use Rattle.ho_model.specs.declared.marks.EntryMark.{EntryMark}
+use Rattle.ho_model.specs.declared.marks.CallMark.TheVariants.{Completed}
+use Rattle.ho_model.specs.declared.marks.ReplyMark.TheVariants.{Flag}
+use Rattle.ho_model.specs.Channel.{Channel, Kind, Outcome, Standing, WantsItem, WantsRoom, LooksForItem, LooksForRoom, Answered, Waiter, is_completed, is_waiting, channel_answer, empty_channel}
+use Rattle.ho_model.specs.Objects.{State, ChannelState, object_step, channel_step, stepped, most_callers, empty_state}
+use Rattle.ho_model.proofs.Folds.{and_then_some}
+use Rattle.ho_model.proofs.Replies.{channel_entry_is, accepted_caller}
+use Rattle.ho_model.specs.Histories.{fold_from, state_after}
+use Rattle.channel_laws.specs.Reached.{IsSettled, IsReached, IsChannelObject, Reaches, kind_in}
+use Rattle.channel_laws.proofs.Settling.{HasRoom, StaysReached, steps_stay, empty_is_reached}
+
+-- an entry of a channel object is one of its channel
+pub kind_is : (priority : Mark → ℕ) (o : Object) → IsChannelObject o → (s : Channel) (e : EntryMark) → stepped priority o (ChannelState s) e ≡ channel_step (kind_in priority o) (ChannelState s) e
+kind_is priority object.Unbounded room s e = refl
+kind_is priority (object.Bounded capacity mode) room s e = refl
+kind_is priority object.Prioritized room s e = refl
+kind_is priority (object.Queue room' first) room s e = absurd room
+kind_is priority object.Bag room s e = absurd room
+kind_is priority (object.Blocking store bound) room s e = absurd room
+
+has_room : (priority : Mark → ℕ) (o : Object) → IsChannelObject o → HasRoom (kind_in priority o).capacity
+has_room priority object.Unbounded room = tt
+has_room priority (object.Bounded capacity mode) room = room
+has_room priority object.Prioritized room = tt
+has_room priority (object.Queue room' first) room = absurd room
+has_room priority object.Bag room = absurd room
+has_room priority (object.Blocking store bound) room = absurd room
+
+pub starts_empty : (o : Object) → IsChannelObject o → empty_state o ≡ ChannelState empty_channel
+starts_empty object.Unbounded room = refl
+starts_empty (object.Bounded capacity mode) room = refl
+starts_empty object.Prioritized room = refl
+starts_empty (object.Queue room' first) room = absurd room
+starts_empty object.Bag room = absurd room
+starts_empty (object.Blocking store bound) room = absurd room
+
+-- an entry that a channel object accepts: its caller, the channel after it, and the channel's answer
+pub record IsEntry (kind : Kind) (s : Channel) (e : EntryMark) (t : State) : Type 0 where
+  pub caller : e.caller < most_callers
+  pub after : Channel
+  pub state : t ≡ ChannelState after
+  pub answer : ◌≡◌ {A = Option Outcome} (channel_answer kind s e.caller e.call) (Some (e.reply, after))
+
+pub entry_is : (priority : Mark → ℕ) (o : Object) → IsChannelObject o → (s : Channel) (e : EntryMark) (t : State) → object_step priority o (ChannelState s) e ≡ Some t → IsEntry (kind_in priority o) s e t
+entry_is priority o room s e t h =
+    let by = accepted_caller priority o (ChannelState s) t e h in
+    let own = channel_entry_is (kind_in priority o) s e t (sym (kind_is priority o room s e) ∙ by.1) in
+    record { caller = by.0; after = own.0; state = own.1; answer = own.2 }
+
+runs_stay : (priority : Mark → ℕ) (o : Object) → IsChannelObject o → (es : List EntryMark) (s : Channel) (t : State) → IsReached (kind_in priority o) s → fold_from priority o (ChannelState s) es ≡ Some t → (x : Channel) × (t ≡ ChannelState x) × IsReached (kind_in priority o) x
+runs_stay priority o room [] s t was h = let e : ChannelState s ≡ t = cc in (s, sym e, was)
+runs_stay priority o room (e ∷ es) s t was h =
+    let by = and_then_some (λ n. fold_from priority o n es) (object_step priority o (ChannelState s) e) t h in
+    let own = entry_is priority o room s e by.0 by.1 in
+    let kept = steps_stay (kind_in priority o) s e.caller e.call (has_room priority o room) own.caller was in
+    runs_stay priority o room es own.after t (subst (StaysReached (kind_in priority o)) own.answer kept) (subst (λ (n : State). fold_from priority o n es ≡ Some t) own.state by.2)
+
+-- what a legal history of a channel object reaches
+pub history_reaches : (priority : Mark → ℕ) (o : Object) (history : List EntryMark) (t : State) → IsChannelObject o → state_after priority o history ≡ Some t → (x : Channel) × (t ≡ ChannelState x) × IsReached (kind_in priority o) x
+history_reaches priority o history t room h =
+    runs_stay priority o room history empty_channel t (empty_is_reached (kind_in priority o)) (subst (λ (n : State). fold_from priority o n history ≡ Some t) (starts_empty o room) h)
+
+abbrev channel_in : State → Channel
+channel_in (ChannelState s) = s
+channel_in _ = empty_channel
+
+-- a law of the states that histories reach holds after each legal history
+pub reached_by : (priority : Mark → ℕ) (o : Object) (history : List EntryMark) (s : Channel) → Reaches priority o history s → IsReached (kind_in priority o) s
+reached_by priority o history s r =
+    let by = history_reaches priority o history (ChannelState s) r.0 r.1 in
+    subst (IsReached (kind_in priority o)) (sym (ap channel_in by.1)) by.2
+
+set_not_none : (o : Option ℕ) → is_some o ≡ true → o ≡ None → ⊥
+set_not_none None h e = both_ways false refl h
+set_not_none (Some x) h e = both_ways true (ap is_some e) refl
+
+answered_all : (kind : Kind) (count : ℕ) (completion : Option ℕ) → is_some completion ≡ true → (st : Standing) → IsSettled kind count completion st → is_waiting st ≡ false
+answered_all kind count completion some WantsItem h = absurd (set_not_none completion some h.1)
+answered_all kind count completion some (WantsRoom item) h = absurd (set_not_none completion some h.1.1)
+answered_all kind count completion some LooksForItem h = absurd (set_not_none completion some h.1)
+answered_all kind count completion some LooksForRoom h = absurd (set_not_none completion some h.1.1)
+answered_all kind count completion some (Answered r) h = refl
+
+each_answered : (kind : Kind) (count : ℕ) (completion : Option ℕ) → is_some completion ≡ true → (ws : List Waiter) → AllByRecursion (λ w. IsSettled kind count completion w.standing) ws → AllByRecursion (λ w. is_waiting w.standing ≡ false) ws
+each_answered kind count completion some [] h = tt
+each_answered kind count completion some (w ∷ ws) h = (answered_all kind count completion some w.standing h.0, each_answered kind count completion some ws h.1)
+
+pub completed_has_no_waits : (kind : Kind) (s : Channel) → IsReached kind s → is_completed s ≡ true → AllByRecursion (λ w. is_waiting w.standing ≡ false) s.waits
+completed_has_no_waits kind s was h =
+    each_answered kind (length s.buffer) s.completion (and_parts (is_some s.completion) (length s.buffer == 0) h).0 s.waits was.settled
+
+empty_from : (xs : List Mark) → length xs ≡ 0 → xs ≡ []
+empty_from [] h = refl
+empty_from (x ∷ xs) h = absurd (omega arith)
+
+abbrev flag_in : ReplyMark → Bool
+flag_in (Flag b) = b
+flag_in _ = false
+
+abbrev said : Option Outcome → Bool
+said None = false
+said (Some o) = flag_in o.0
+
+pub completed_exactly : (kind : Kind) (s : Channel) (caller : ℕ) → (channel_answer kind s caller Completed ≡ Some (Flag true, s)) ↔ ((is_some s.completion ≡ true) × (s.buffer ≡ []))
+completed_exactly kind s caller = (
+  (λ h. let e : is_completed s ≡ true = ap said h in
+      let parts = and_parts (is_some s.completion) (length s.buffer == 0) e in
+      (parts.0, empty_from s.buffer (eqb-true (length s.buffer) 0 parts.1))),
+  (λ h. let z : (length s.buffer == 0) ≡ true = ap (λ b. length b == 0) h.1 in simp (h.0, z) refl),
+)

@@ -1,0 +1,4 @@
+pub mod Twin
+pub mod Reached
+pub mod Laws
+pub mod Kinds

@@ -1,0 +1,53 @@
+//! The laws of channels, over the definitions of `ho_model`.
+//!
+//! Each function does nothing; its contract is a law that the check proves, of every state that a
+//! legal history of a channel reaches, in any mode and with or without priorities. A machine whose
+//! `step` is its object, as those of `channel_core` and `priority_core`, inherits them, and so does
+//! whatever shares such a machine.
+//!
+//! - `specs/Twin.antt`: a channel beside its twin, which lacks one wait.
+//! - `specs/Reached.antt`: the states that histories reach.
+//! - `specs/Kinds.antt`: the answers that a begin's wait can get.
+//! - `specs/Laws.antt`: the laws.
+//!
+//! The functions have no code, so that no edit of it can be refused; what guards the laws is that they
+//! are proved of the definitions as they stand.
+#![tactic(auto)]
+
+ghost use Rattle.channel_laws.specs.Laws.{CancelLeavesTwin, OthersFollow, WaitsStandWhereTheyMust, CompletedExactly, CompletedHasNoWaits, PollsAnswerInKind, CancelsAnswerInKind, ReadsTakeFirstLeast};
+
+/// A cancelled wait has taken and left nothing: a cancel of an unanswered wait leaves exactly the
+/// channel without it, and until then every call either answered it, or answered and changed the
+/// channel as if the wait had not been there.
+pub fn a_cancelled_wait_leaves_no_trace()
+    ensures cancel { CancelLeavesTwin }
+    ensures others { OthersFollow }
+{}
+
+/// An unanswered read or look for an item stands only with an empty buffer, an unanswered write or
+/// look for room only with a full one in mode `Wait`, and none once the channel is complete. Each
+/// wait has a name of its own: its caller, and a number below its caller's count of begins.
+pub fn waits_stand_only_where_they_must()
+    ensures { WaitsStandWhereTheyMust }
+{}
+
+/// A channel says that it is completed exactly where its completion is set and its buffer is empty,
+/// and no wait is unanswered then.
+pub fn completed_is_the_end()
+    ensures exactly { CompletedExactly }
+    ensures no_waits { CompletedHasNoWaits }
+{}
+
+/// A wait is answered in the kind of the begin that left it, and by nothing else: a read with an item
+/// or with the end, a write with done or refused with its own item, a look with ready or faulted.
+/// Until such an answer was fetched, or the wait was cancelled, a poll says that it stands, or answers
+/// so; a cancel says that it is given up, or answers so. So the wait is never unknown before.
+pub fn a_wait_is_answered_in_kind()
+    ensures polls { PollsAnswerInKind }
+    ensures cancels { CancelsAnswerInKind }
+{}
+
+/// With a priority a read takes, of the items of least priority, the one that was written first.
+pub fn a_read_takes_the_first_of_least_priority()
+    ensures { ReadsTakeFirstLeast }
+{}
