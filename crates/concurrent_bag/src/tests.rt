@@ -2,6 +2,7 @@
 ghost use Rattle.std.specs.Prelude.{◌≡◌, ◌+◌, ◌^◌, ◌<◌, ◌≤◌};
 
 use super::*;
+use ho_base::Receipt;
 use ho_model::Machine;
 use std::test::Fail;
 
@@ -92,5 +93,34 @@ fn a_list_is_full_at_its_limit_and_others_are_not(rt: HostRuntime) -> Result<(),
     assert!(rt; answers(&mut bag, 1, Call::Add(8), ("done", 0, 0)));
     assert!(rt; answers(&mut bag, 0, Call::Take, ("item", 16_382, 0)));
     assert!(rt; answers(&mut bag, 0, Call::Add(7), ("done", 0, 0)));
+    Ok(())
+}
+
+fn place(number: u64) -> Receipt {
+    Receipt::Place { number }
+}
+
+#[test]
+fn a_shared_bag_lets_a_caller_steal(rt: HostRuntime) -> Result<(), Fail> {
+    let (bag, mut a) = ConcurrentBag::new(rt.alloc(), 2)?;
+    let mut b = bag.split(&mut a);
+    assert_eq!(rt; (a.spare(), b.caller()), (0, 1));
+    assert!(rt; matches!(bag.add(&rt, &mut a, 1u64), Ok((BagAdd::Done, at)) if at == place(0)));
+    assert!(rt; matches!(bag.add(&rt, &mut a, 2u64), Ok((BagAdd::Done, at)) if at == place(1)));
+    assert_eq!(rt;
+        bag.take(&rt, &mut b),
+        (BagTake::Item { from: 0, item: 1 }, place(2))
+    );
+    assert_eq!(rt;
+        bag.take(&rt, &mut a),
+        (BagTake::Item { from: 0, item: 2 }, place(3))
+    );
+    assert_eq!(rt; bag.take(&rt, &mut a), (BagTake::Empty, place(4)));
+    assert_eq!(rt; bag.take(&rt, &mut b), (BagTake::Empty, place(5)));
+    assert_eq!(rt; bag.count(&rt, &mut b), (0, place(6)));
+    bag.join(&mut a, b);
+    assert!(rt;
+        matches!(bag.snapshot(&rt, rt.alloc(), &mut a), Ok((items, at)) if items.as_slice().is_empty() && at == place(7))
+    );
     Ok(())
 }
