@@ -116,9 +116,11 @@ impl<T: Item> ConcurrentBag<T> {
         ensures no_entry { OnErr result (AddsNoEntry T.priority_of pass.old pass.new) }
     {
         match self.shared.call(rt, &mut pass.pass, BagCall::Add(item)) {
-            Ok((BagReply::Done, receipt)) => Ok((BagAdd::Done, receipt)),
-            Ok((BagReply::Full(back), receipt)) => Ok((BagAdd::Full(back), receipt)),
-            Ok(_) => unreachable!(),
+            Ok((reply, receipt)) => match reply {
+                BagReply::Done => Ok((BagAdd::Done, receipt)),
+                BagReply::Full(back) => Ok((BagAdd::Full(back), receipt)),
+                _ => unreachable!(),
+            },
             Err(
                 Unpaid {
                     back: BagCall::Add(back),
@@ -137,9 +139,12 @@ impl<T: Item> ConcurrentBag<T> {
             (entry pass.old.caller callmark.Take (take_mark T.mark result.0)) result.1 pass.new }
     {
         match self.shared.call(rt, &mut pass.pass, BagCall::Take) {
-            Ok((BagReply::Item { from, item }, receipt)) => (BagTake::Item { from, item }, receipt),
-            Ok((BagReply::Empty, receipt)) => (BagTake::Empty, receipt),
-            _ => unreachable!(),
+            Ok((reply, receipt)) => match reply {
+                BagReply::Item { from, item } => (BagTake::Item { from, item }, receipt),
+                BagReply::Empty => (BagTake::Empty, receipt),
+                _ => unreachable!(),
+            },
+            Err(_) => unreachable!(),
         }
     }
 
@@ -173,8 +178,10 @@ impl<T: Item> ConcurrentBag<T> {
         // behind a turn the bag takes the memory, by the allocator that it keeps
         let _ = alloc;
         match self.shared.call(rt, &mut pass.pass, BagCall::Snap) {
-            Ok((BagReply::Numbers(numbers), receipt)) => Ok((numbers, receipt)),
-            Ok(_) => unreachable!(),
+            Ok((reply, receipt)) => match reply {
+                BagReply::Numbers(numbers) => Ok((numbers, receipt)),
+                _ => unreachable!(),
+            },
             Err(_) => Err(NoMemory),
         }
     }
