@@ -1,0 +1,4 @@
+pub mod Doing
+pub mod Places
+pub mod Trying
+pub mod Rounds

@@ -1,0 +1,2 @@
+// The worked rows of members and of the calls over several collections.
+use super::*;

@@ -1,0 +1,73 @@
+// An add and a take that try again.
+ghost use Rattle.std.specs.Prelude.{◌≡◌};
+ghost use Rattle.blocking_collection.specs.Waits.{Added, Taken};
+
+use crate::collection::BlockingCollection;
+use crate::singles::{AddReply, TakeReply, one_add, one_take};
+use cancel_flag::CancelToken;
+use crossbeam_utils::Backoff;
+use ho_base::{Item, Unpaid};
+use std::sync::Wait;
+use turn_lock::Pass;
+
+/// Adds, and tries again while the collection is full.
+pub(crate) fn add_on<T: Item, R: Wait>(
+    rt: &R,
+    collection: &BlockingCollection<T>,
+    pass: &mut Pass,
+    item: T,
+    token: &mut CancelToken,
+) -> Result<AddReply<T>, Unpaid<T>>
+    requires { pass.old.table ≡ collection.now }
+    ensures table { pass.new.table ≡ pass.old.table }
+    ensures word { token.new.word ≡ token.old.word }
+    ensures added { Added T.priority_of T.mark token.old.looks token.new.looks token.new.seen item pass.old pass.new result }
+{
+    let mut given = item;
+    let backoff = Backoff::new();
+    for _ in rt.forever() {
+        match one_add(rt, collection, pass, given) {
+            Ok(AddReply::Done) => return Ok(AddReply::Done),
+            Ok(AddReply::Closed(back)) => return Ok(AddReply::Closed(back)),
+            Ok(AddReply::Full(back)) => {
+                if token.is_cancelled(rt) {
+                    return Ok(AddReply::Cancelled(back));
+                }
+                given = back;
+            }
+            Ok(AddReply::Cancelled(_)) => unreachable!(),
+            Err(unpaid) => return Err(unpaid),
+        }
+        backoff.snooze();
+    }
+    unreachable!()
+}
+
+/// Takes, and tries again while the collection is empty.
+pub(crate) fn take_on<T: Item, R: Wait>(
+    rt: &R,
+    collection: &BlockingCollection<T>,
+    pass: &mut Pass,
+    token: &mut CancelToken,
+) -> TakeReply<T>
+    requires { pass.old.table ≡ collection.now }
+    ensures table { pass.new.table ≡ pass.old.table }
+    ensures word { token.new.word ≡ token.old.word }
+    ensures taken { Taken T.priority_of T.mark token.old.looks token.new.looks token.new.seen pass.old pass.new result }
+{
+    let backoff = Backoff::new();
+    for _ in rt.forever() {
+        match one_take(rt, collection, pass) {
+            TakeReply::Item(item) => return TakeReply::Item(item),
+            TakeReply::Ended => return TakeReply::Ended,
+            TakeReply::Empty => {
+                if token.is_cancelled(rt) {
+                    return TakeReply::Cancelled;
+                }
+            }
+            TakeReply::Cancelled => unreachable!(),
+        }
+        backoff.snooze();
+    }
+    unreachable!()
+}

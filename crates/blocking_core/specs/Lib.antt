@@ -1,0 +1,5 @@
+pub mod Stores
+pub mod Calls
+pub mod Rows
+pub mod Kept
+pub mod Laws

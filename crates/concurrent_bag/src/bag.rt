@@ -1,0 +1,188 @@
+// The bag that callers share.
+ghost use Rattle.std.specs.Prelude.{◌≡◌, ◌<◌, ◌≤◌, ◌++◌, ◌↔◌, ℕ, IfOk, IfErr, OnErr};
+
+use crate::calls::{BagCall, BagReply};
+use crate::machine::BagMachine;
+use crate::pass::BagPass;
+use ho_base::{Item, NoMemory, Receipt, Unpaid};
+use ho_model::Items;
+use std::alloc::Global;
+use std::marker::Model;
+use std::sync::Wait;
+use turn_lock::Shared;
+
+/// What an add comes to.
+#[derive(Debug, PartialEq, Eq, Drop)]
+pub enum BagAdd<T> {
+    Done,
+    /// The caller's list has as many items as a list may have. The item comes back.
+    Full(T),
+}
+
+/// What a take comes to.
+#[derive(Debug, PartialEq, Eq, Drop)]
+pub enum BagTake<T> {
+    /// An item, and the caller in whose list it was.
+    Item { from: u32, item: T },
+    /// There is no item.
+    Empty,
+}
+
+/// An unordered collection that up to 64 callers share, with a list for each, after .NET's
+/// `ConcurrentBag<T>`. To a contract it is its table.
+#[derive(Drop)]
+pub struct ConcurrentBag<T: Item> {
+    shared: Shared<BagMachine<T>>,
+}
+
+impl<T: Item> Model for ConcurrentBag<T> {
+    ghost use Rattle.atomic_table.specs.Seated.{TableId, table_id_coded};
+
+    ghost Value = { TableId };
+
+    ghost coded = { table_id_coded };
+
+    ghost view = { λ b. b.shared };
+}
+
+impl<T: Item> ConcurrentBag<T> {
+    ghost use Rattle.ho_model.specs.Entries.{entry};
+    ghost use Rattle.ho_model.specs.declared.marks.CallMark.TheVariants as callmark;
+    ghost use Rattle.ho_model.specs.declared.marks.ReplyMark.TheVariants.{Counted, Numbers};
+    ghost use Rattle.passes.specs.Numbers.{IsSpare, AreApart, held_count, held_both, give, only};
+    ghost use Rattle.passes.specs.Seen.{SeesOthers, IsLawful, longer};
+    ghost use Rattle.concurrent_bag.specs.Passes.{IsSamePass, Answers, AddsNoEntry, first_pass};
+    ghost use Rattle.concurrent_bag.specs.Replies.{add_mark, take_mark, HandsBack};
+
+    /// A bag without items for 1 to 64 callers, and the first pass, which holds all numbers.
+    pub fn new(alloc: Global, callers: u32) -> Result<(ConcurrentBag<T>, BagPass), NoMemory>
+        requires callers { (0 < callers) × (callers ≤ 64) }
+        ensures { IfOk result (λ made. made.1 ≡ first_pass made.0 callers) }
+    {
+        let machine = BagMachine::new(alloc, callers)?;
+        let (shared, pass) = Shared::new(alloc, machine, callers)?;
+        Ok((ConcurrentBag { shared }, BagPass { pass }))
+    }
+
+    /// Splits off a pass with the least number that can be given away, which has seen as much.
+    ///
+    /// The new pass holds that number alone. Takes no memory.
+    pub fn split(&self, pass: &mut BagPass) -> BagPass
+        requires table { pass.old.table ≡ self.now }
+        requires spare { 1 < held_count pass.old.held }
+        ensures kept { pass.new ≡ record pass.old { held = give pass.old.held result.caller } }
+        ensures given { result ≡ record pass.old { caller = result.caller; held = only result.caller } }
+        ensures spare { IsSpare pass.old.held pass.old.caller result.caller }
+        ensures least { (c : ℕ) → c < result.caller → ¬ IsSpare pass.old.held pass.old.caller c }
+    {
+        BagPass {
+            pass: self.shared.split(&mut pass.pass),
+        }
+    }
+
+    /// Takes in another pass of the same bag, with its numbers.
+    ///
+    /// What is seen afterwards is the longer of the two lists. Each of them begins it, and goes on
+    /// with entries of callers other than that pass's own. Takes no memory.
+    pub fn join(&self, pass: &mut BagPass, other: BagPass)
+        requires table { (pass.old.table ≡ self.now) × (other.table ≡ self.now) }
+        ensures joined { pass.new ≡ record pass.old {
+          held = held_both pass.old.held other.held;
+          seen = longer pass.old.seen other.seen;
+        } }
+        ensures apart { AreApart pass.old.held other.held }
+        ensures first { SeesOthers pass.old.held pass.old.seen pass.new.seen }
+        ensures second { SeesOthers other.held other.seen pass.new.seen }
+        ensures lawful { IsLawful T.priority_of pass.new.object pass.new.callers pass.new.seen }
+    {
+        let BagPass { pass: other } = other;
+        self.shared.join(&mut pass.pass, other)
+    }
+
+    /// Puts an item last in the caller's own list, if that has room (`Add`). For want of memory
+    /// there is no entry, and the item comes back.
+    pub fn add<R: Wait>(
+        &self,
+        rt: &R,
+        pass: &mut BagPass,
+        item: T,
+    ) -> Result<(BagAdd<T>, Receipt), Unpaid<T>>
+        requires { pass.old.table ≡ self.now }
+        ensures pass { IsSamePass pass.old pass.new }
+        ensures entry { IfOk result (λ r. Answers T.priority_of pass.old
+            (entry pass.old.caller (callmark.Add (T.mark item)) (add_mark r.0)) r.1 pass.new) }
+        ensures handed_back { IfOk result (λ r. HandsBack item r.0) }
+        ensures back { IfErr result (λ unpaid. unpaid.back ≡ item) }
+        ensures no_entry { OnErr result (AddsNoEntry T.priority_of pass.old pass.new) }
+    {
+        match self.shared.call(rt, &mut pass.pass, BagCall::Add(item)) {
+            Ok((reply, receipt)) => match reply {
+                BagReply::Done => Ok((BagAdd::Done, receipt)),
+                BagReply::Full(back) => Ok((BagAdd::Full(back), receipt)),
+                _ => unreachable!(),
+            },
+            Err(
+                Unpaid {
+                    back: BagCall::Add(back),
+                },
+            ) => Err(Unpaid { back }),
+            Err(_) => unreachable!(),
+        }
+    }
+
+    /// Takes the last item of the caller's own list or, where that has none, the first item of
+    /// another (`TryTake`). Takes no memory.
+    pub fn take<R: Wait>(&self, rt: &R, pass: &mut BagPass) -> (BagTake<T>, Receipt)
+        requires { pass.old.table ≡ self.now }
+        ensures pass { IsSamePass pass.old pass.new }
+        ensures entry { Answers T.priority_of pass.old
+            (entry pass.old.caller callmark.Take (take_mark T.mark result.0)) result.1 pass.new }
+    {
+        match self.shared.call(rt, &mut pass.pass, BagCall::Take) {
+            Ok((reply, receipt)) => match reply {
+                BagReply::Item { from, item } => (BagTake::Item { from, item }, receipt),
+                BagReply::Empty => (BagTake::Empty, receipt),
+                _ => unreachable!(),
+            },
+            Err(_) => unreachable!(),
+        }
+    }
+
+    /// Counts the items (`Count`). Takes no memory.
+    pub fn count<R: Wait>(&self, rt: &R, pass: &mut BagPass) -> (u64, Receipt)
+        requires { pass.old.table ≡ self.now }
+        ensures pass { IsSamePass pass.old pass.new }
+        ensures entry { Answers T.priority_of pass.old
+            (entry pass.old.caller callmark.Count (Counted result.0)) result.1 pass.new }
+    {
+        match self.shared.call(rt, &mut pass.pass, BagCall::Count) {
+            Ok((BagReply::Count(count), receipt)) => (count, receipt),
+            _ => unreachable!(),
+        }
+    }
+
+    /// The numbers of all items, the lists in the order of their callers, each from its oldest item
+    /// (`ToArray`). For want of memory there is no entry.
+    pub fn snapshot<R: Wait>(
+        &self,
+        rt: &R,
+        alloc: Global,
+        pass: &mut BagPass,
+    ) -> Result<(Items, Receipt), NoMemory>
+        requires { pass.old.table ≡ self.now }
+        ensures pass { IsSamePass pass.old pass.new }
+        ensures entry { IfOk result (λ r. Answers T.priority_of pass.old
+            (entry pass.old.caller callmark.Snap (Numbers r.0)) r.1 pass.new) }
+        ensures no_entry { OnErr result (AddsNoEntry T.priority_of pass.old pass.new) }
+    {
+        // behind a turn the bag takes the memory, by the allocator that it keeps
+        let _ = alloc;
+        match self.shared.call(rt, &mut pass.pass, BagCall::Snap) {
+            Ok((reply, receipt)) => match reply {
+                BagReply::Numbers(numbers) => Ok((numbers, receipt)),
+                _ => unreachable!(),
+            },
+            Err(_) => Err(NoMemory),
+        }
+    }
+}

@@ -1,0 +1,5 @@
+pub mod Calls
+pub mod Kept
+pub mod Telling
+pub mod Passes
+pub mod Queues

@@ -1,0 +1,29 @@
+//! The queue of numbers, first in and first out, with room for a number of items.
+//!
+//! [`ConcurrentQueue`] is the queue that up to 64 callers share, each call one entry of one history
+//! that is legal for the queue object of `ho_model`. It stands behind one turn: a caller waits for
+//! the others that call. [`QueueMachine`] is the queue as a plain list within one thread, proved to
+//! be that object.
+//!
+//! Enqueues, dequeues, peeks and counts take constant time and no memory; a snapshot is linear and
+//! takes its own.
+//!
+//! Stands on `ho_model`, which says what a queue is, on `item_lists` for the list, and on
+//! `turn_lock` for the sharing. It promises upward that an answered call adds to what its pass has
+//! seen entries of other callers and then its own entry, and that the receipt tells the counts of
+//! the entries before it.
+#![tactic(auto)]
+
+mod calls;
+mod machine;
+mod pass;
+mod queue;
+mod telling;
+
+pub use calls::{QueueCall, QueueReply};
+pub use machine::QueueMachine;
+pub use pass::QueuePass;
+pub use queue::{ConcurrentQueue, DequeueReply, EnqueueReply, QueueRefused};
+
+#[cfg(test)]
+mod tests;

@@ -1,0 +1,40 @@
+// The pass of a caller of a queue.
+ghost use Rattle.std.specs.Prelude.{◌≡◌, ◌<◌, ◌+◌};
+ghost use Rattle.passes.specs.Numbers.{held_count};
+
+use std::marker::Model;
+use turn_lock::Pass;
+
+/// The right to call a shared queue under a number, and what its owner has seen of the queue.
+///
+/// Contracts see of it the queue with its parameters, its own number, the numbers that it holds, and
+/// the beginning of the queue's history that it has seen. It may move to another thread.
+#[derive(Drop)]
+pub struct QueuePass {
+    pub(crate) pass: Pass,
+}
+
+impl Model for QueuePass {
+    ghost use Rattle.concurrent_queue.specs.Passes.{QueueView, queue_view};
+
+    ghost Value = { QueueView };
+
+    ghost view = { λ p. queue_view p.pass };
+}
+
+impl QueuePass {
+    /// The number under which it calls, below 64.
+    pub fn caller(&self) -> u32
+        ensures caller { result ≡ self.now.caller }
+        ensures inside { result < 64 }
+    {
+        self.pass.caller()
+    }
+
+    /// How many numbers it holds beside its own, each of which it can give away.
+    pub fn spare(&self) -> u32
+        ensures { result + 1 ≡ held_count self.now.held }
+    {
+        self.pass.spare()
+    }
+}

@@ -1,0 +1,261 @@
+// The queue that callers share.
+ghost use Rattle.std.specs.Prelude.{◌≡◌, ◌<◌, ◌≤◌, ◌++◌, ◌∷◌, [], ◌↔◌, ℕ, IfOk, Err, IsTrue};
+ghost use Rattle.ho_base.specs.declared.receipts.Receipt.TheVariants.{Enqueued, Looked};
+ghost use Rattle.concurrent_queue.specs.Queues.{IsFirstLength};
+
+use crate::calls::{QueueCall, QueueReply};
+use crate::pass::QueuePass;
+use crate::telling::TellingQueue;
+use ho_base::Receipt;
+use ho_model::Tally;
+use std::alloc::Global;
+use std::marker::Model;
+use std::sync::Wait;
+use turn_lock::Shared;
+
+/// Why no queue was made.
+#[derive(Clone, Copy, Debug, PartialEq, Eq)]
+pub enum QueueRefused {
+    /// The room is 0, or above 65,536.
+    BadRoom,
+    /// The length of a first segment is not a power of two from 2 to 1,024.
+    BadLength,
+    /// The segments for so much room and so many callers have too many slots. A queue behind a turn
+    /// has none, and is never refused so.
+    TooLarge,
+    NoMemory,
+}
+
+/// What an enqueue comes to.
+#[derive(Clone, Copy, Debug, PartialEq, Eq)]
+pub enum EnqueueReply {
+    Done,
+    /// There are as many items as there is room for.
+    Full,
+}
+
+/// What a dequeue or a peek comes to.
+#[derive(Clone, Copy, Debug, PartialEq, Eq)]
+pub enum DequeueReply {
+    Item(u64),
+    /// There is no item.
+    Empty,
+}
+
+/// The most items that a queue has room for.
+const MOST_ROOM: u32 = 65_536;
+
+/// The longest first segment.
+const LONGEST_FIRST: u32 = 1_024;
+
+/// A first-in first-out queue of numbers that up to 64 callers share, with room for so many items,
+/// after .NET's `ConcurrentQueue<T>`. Contracts see its identity, its room and the length of a first
+/// segment.
+#[derive(Drop)]
+pub struct ConcurrentQueue {
+    shared: Shared<TellingQueue>,
+    room: u32,
+    first_len: u32,
+}
+
+impl Model for ConcurrentQueue {
+    ghost use Rattle.concurrent_queue.specs.Queues.{QueueId};
+
+    ghost Value = { QueueId };
+
+    ghost view = { λ q. record { table = q.shared; room = q.room; first_len = q.first_len } };
+}
+
+impl ConcurrentQueue {
+    ghost use Rattle.ho_model.specs.Entries.{entry};
+    ghost use Rattle.ho_model.specs.declared.marks.CallMark.TheVariants as callmark;
+    ghost use Rattle.ho_model.specs.declared.marks.ReplyMark.TheVariants.{Counted};
+    ghost use Rattle.passes.specs.Numbers.{IsSpare, AreApart, held_count, held_both, give, only};
+    ghost use Rattle.passes.specs.Seen.{SeesOthers, IsLawful, longer};
+    ghost use Rattle.concurrent_queue.specs.Kept.{no_priority};
+    ghost use Rattle.concurrent_queue.specs.Passes.{IsSamePass, Answers};
+    ghost use Rattle.concurrent_queue.specs.Queues.{IsBadRoom, IsFirstLength, IsOf, first_pass, enqueue_mark, dequeue_mark, IsLook, IsEnqueueReceipt, IsDequeueReceipt, IsPeekReceipt};
+    ghost use Rattle.concurrent_queue.specs.declared.queue.QueueRefused.TheVariants.{BadRoom, BadLength};
+
+    /// A queue without items for 1 to 64 callers, with room for 1 to 65,536 items, and the first
+    /// pass, which holds all numbers. It takes all its memory here.
+    pub fn new(
+        alloc: Global,
+        room: u32,
+        first_len: u32,
+        callers: u32,
+    ) -> Result<(ConcurrentQueue, QueuePass), QueueRefused>
+        requires callers { (0 < callers) × (callers ≤ 64) }
+        ensures made { IfOk result (λ made. (made.0.room ≡ room) × (made.0.first_len ≡ first_len)
+            × (made.1 ≡ first_pass made.0 callers)) }
+        ensures bad_room { (result ≡ Err BadRoom) ↔ IsBadRoom room }
+        ensures bad_length { (result ≡ Err BadLength) ↔ ((¬ IsBadRoom room) × (¬ IsFirstLength first_len)) }
+    {
+        if room == 0 || room > MOST_ROOM {
+            return Err(QueueRefused::BadRoom);
+        }
+        if !is_first_length(first_len) {
+            return Err(QueueRefused::BadLength);
+        }
+        let Ok(queue) = TellingQueue::new(alloc, room, first_len) else {
+            return Err(QueueRefused::NoMemory);
+        };
+        match Shared::new(alloc, queue, callers) {
+            Ok((shared, pass)) => {
+                let queue = ConcurrentQueue {
+                    shared,
+                    room,
+                    first_len,
+                };
+                Ok((queue, QueuePass { pass }))
+            }
+            Err(_) => Err(QueueRefused::NoMemory),
+        }
+    }
+
+    /// Splits off a pass with the least number that can be given away, which has seen as much.
+    ///
+    /// The new pass holds that number alone. Takes no memory.
+    pub fn split(&self, pass: &mut QueuePass) -> QueuePass
+        requires of { IsOf self.now pass.old }
+        requires spare { 1 < held_count pass.old.held }
+        ensures kept { pass.new ≡ record pass.old { held = give pass.old.held result.caller } }
+        ensures given { result ≡ record pass.old { caller = result.caller; held = only result.caller } }
+        ensures spare { IsSpare pass.old.held pass.old.caller result.caller }
+        ensures least { (c : ℕ) → c < result.caller → ¬ IsSpare pass.old.held pass.old.caller c }
+    {
+        QueuePass {
+            pass: self.shared.split(&mut pass.pass),
+        }
+    }
+
+    /// Takes in another pass of the same queue, with its numbers.
+    ///
+    /// What is seen afterwards is the longer of the two lists. Each of them begins it, and goes on
+    /// with entries of callers other than that pass's own. Takes no memory.
+    pub fn join(&self, pass: &mut QueuePass, other: QueuePass)
+        requires of { IsOf self.now pass.old × IsOf self.now other }
+        ensures joined { pass.new ≡ record pass.old {
+          held = held_both pass.old.held other.held;
+          seen = longer pass.old.seen other.seen;
+        } }
+        ensures apart { AreApart pass.old.held other.held }
+        ensures first { SeesOthers pass.old.held pass.old.seen pass.new.seen }
+        ensures second { SeesOthers other.held other.seen pass.new.seen }
+        ensures lawful { IsLawful no_priority pass.new.object pass.new.callers pass.new.seen }
+    {
+        let QueuePass { pass: other } = other;
+        self.shared.join(&mut pass.pass, other)
+    }
+
+    /// How many items there is room for.
+    pub fn room(&self) -> u32
+        ensures { result ≡ self.now.room }
+    {
+        self.room
+    }
+
+    /// Puts an item last, if there is room (`Enqueue`). Takes no memory.
+    pub fn enqueue<R: Wait>(
+        &self,
+        rt: &R,
+        pass: &mut QueuePass,
+        value: u64,
+    ) -> (EnqueueReply, Receipt)
+        requires { IsOf self.now pass.old }
+        ensures pass { IsSamePass pass.old pass.new }
+        ensures entry { Answers (IsEnqueueReceipt self.now.first_len result.0) pass.old
+            (entry pass.old.caller (callmark.Enq (value ∷ [])) (enqueue_mark result.0)) result.1 pass.new }
+    {
+        match self
+            .shared
+            .call(rt, &mut pass.pass, QueueCall::Enqueue(value))
+        {
+            Ok(((QueueReply::Done, tally), _)) => (EnqueueReply::Done, enqueued(tally)),
+            Ok(((QueueReply::Full, tally), _)) => (EnqueueReply::Full, looked(tally)),
+            _ => unreachable!(),
+        }
+    }
+
+    /// Takes the first item, if there is one (`TryDequeue`). Takes no memory.
+    pub fn dequeue<R: Wait>(&self, rt: &R, pass: &mut QueuePass) -> (DequeueReply, Receipt)
+        requires { IsOf self.now pass.old }
+        ensures pass { IsSamePass pass.old pass.new }
+        ensures entry { Answers (IsDequeueReceipt result.0) pass.old
+            (entry pass.old.caller callmark.Deq (dequeue_mark result.0)) result.1 pass.new }
+    {
+        match self.shared.call(rt, &mut pass.pass, QueueCall::Dequeue) {
+            Ok(((QueueReply::Item(item), tally), _)) => {
+                (
+                    DequeueReply::Item(item),
+                    Receipt::Dequeued {
+                        position: tally.taken,
+                    },
+                )
+            }
+            Ok(((QueueReply::Empty, tally), _)) => (DequeueReply::Empty, looked(tally)),
+            _ => unreachable!(),
+        }
+    }
+
+    /// Shows the first item, if there is one (`TryPeek`). Takes no memory.
+    pub fn peek<R: Wait>(&self, rt: &R, pass: &mut QueuePass) -> (DequeueReply, Receipt)
+        requires { IsOf self.now pass.old }
+        ensures pass { IsSamePass pass.old pass.new }
+        ensures entry { Answers (IsPeekReceipt result.0) pass.old
+            (entry pass.old.caller callmark.Peek (dequeue_mark result.0)) result.1 pass.new }
+    {
+        match self.shared.call(rt, &mut pass.pass, QueueCall::Peek) {
+            Ok(((QueueReply::Item(item), tally), _)) => {
+                (
+                    DequeueReply::Item(item),
+                    Receipt::Peeked {
+                        position: tally.taken,
+                    },
+                )
+            }
+            Ok(((QueueReply::Empty, tally), _)) => (DequeueReply::Empty, looked(tally)),
+            _ => unreachable!(),
+        }
+    }
+
+    /// Counts the items (`Count`). Takes no memory.
+    pub fn count<R: Wait>(&self, rt: &R, pass: &mut QueuePass) -> (u64, Receipt)
+        requires { IsOf self.now pass.old }
+        ensures pass { IsSamePass pass.old pass.new }
+        ensures entry { Answers IsLook pass.old
+            (entry pass.old.caller callmark.Count (Counted result.0)) result.1 pass.new }
+    {
+        match self.shared.call(rt, &mut pass.pass, QueueCall::Count) {
+            Ok(((QueueReply::Count(count), tally), _)) => (count, looked(tally)),
+            _ => unreachable!(),
+        }
+    }
+}
+
+/// Whether a first segment can have this length.
+fn is_first_length(length: u32) -> bool
+    ensures { IsTrue result ↔ IsFirstLength length }
+{
+    2 <= length && length <= LONGEST_FIRST && length.is_power_of_two()
+}
+
+/// The receipt of an item that was enqueued. Behind a turn all items lie in the first segment.
+fn enqueued(tally: Tally) -> Receipt
+    ensures { result ≡ Enqueued tally.enqueued 0 }
+{
+    Receipt::Enqueued {
+        position: tally.enqueued,
+        segment: 0,
+    }
+}
+
+/// The receipt of a call that only looked.
+fn looked(tally: Tally) -> Receipt
+    ensures { result ≡ Looked tally.taken tally.enqueued }
+{
+    Receipt::Looked {
+        head: tally.taken,
+        tail: tally.enqueued,
+    }
+}

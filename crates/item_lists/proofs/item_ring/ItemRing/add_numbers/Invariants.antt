@@ -1,0 +1,7 @@
+use Rattle.std.proofs.Common.{◌≡◌, ◌++◌, map, take}
+use Rattle.ho_base.specs.Marks.{number_of}
+use Rattle.item_lists.proofs.item_ring.ItemRing.add_numbers.Given as goal
+
+abbrev pub invariant-loop-i : goal.invariant-loop-i
+invariant-loop-i g l =
+    l.numbers.items ≡ l.initial.numbers.items ++ map number_of (take l.i (map g.T.Marked.mark l.self-inside.items.items))
