@@ -1,0 +1,131 @@
+//! Measures the structures, as `bench WORKLOAD P C N`: P writers, C readers, N operations.
+//!
+//! The last line that it prints is the nanoseconds that one operation took. `docs/SPEED.md` has the
+//! numbers beside those of other libraries. The crate stands on `channels` and promises nothing
+//! upward. Without words it prints its usage.
+#![tactic(auto)]
+
+ghost use Rattle.std.specs.Prelude.{◌<◌, ◌≤◌, IfSome};
+
+mod hand_over;
+mod line;
+mod solo;
+
+use ho_base::NoMemory;
+use std::alloc::{AllocFailed, Global};
+use std::io::Print;
+use std::process::ExitCode;
+use std::sync::Wait;
+use std::thread::Threads;
+use std::time::Clock;
+use std::{env, io};
+use thiserror::Error;
+
+/// Why a run did not come to its end.
+#[derive(Clone, Copy, Debug, Error)]
+pub enum Trouble {
+    #[error("no memory")]
+    NoMemory,
+    #[error("no time from the clock")]
+    NoClock,
+    #[error("no number left for a caller")]
+    NoNumber,
+    #[error("other numbers came than were sent")]
+    WrongNumbers,
+}
+
+impl From<NoMemory> for Trouble {
+    fn from(_: NoMemory) -> Self {
+        Trouble::NoMemory
+    }
+}
+
+impl<T: Drop> From<AllocFailed<T>> for Trouble {
+    fn from(_: AllocFailed<T>) -> Self {
+        Trouble::NoMemory
+    }
+}
+
+/// The most writers, and the most readers. With the pass that is kept they have 63 numbers.
+const MOST_CALLERS: u64 = 31;
+
+/// The most operations of a run.
+const MOST_OPERATIONS: u64 = 1_000_000_000;
+
+/// The status where the words are not those of the usage, and where a run did not come to its end.
+const USAGE_STATUS: u8 = 2;
+
+const FAILED_STATUS: u8 = 1;
+
+fn print_usage(rt: &impl Print) -> io::Result<()> {
+    println!(rt; "usage: bench WORKLOAD P C N")?;
+    println!(rt; "chan: P writers hand N numbers to C readers through a channel of capacity 1024")?;
+    println!(rt; "solo: one caller writes and reads N numbers, one after another")?;
+    println!(rt; "P and C are 1 to 31, N is 1 to 1000000000")?;
+    Ok(())
+}
+
+/// A number of the command line, if it is in range.
+fn number_up_to(word: &str, most: u64) -> Option<u64>
+    ensures { IfSome result (λ number. (0 < number) × (number ≤ most)) }
+{
+    match word.parse::<u64>() {
+        Ok(number) if 0 < number && number <= most => Some(number),
+        _ => None,
+    }
+}
+
+/// The nanoseconds of one operation, of so many that took so long.
+fn per_operation(nanoseconds: Result<u64, Trouble>, count: u64) -> Result<u64, Trouble>
+    requires { 0 < count }
+{
+    match nanoseconds {
+        Ok(nanoseconds) => Ok(nanoseconds / count),
+        Err(trouble) => Err(trouble),
+    }
+}
+
+/// The nanoseconds that one operation of the workload took. None where the words are unknown.
+fn measured<R: Wait + Threads + Sync + Clock>(
+    rt: &R,
+    alloc: Global,
+    words: &[String],
+) -> Option<Result<u64, Trouble>> {
+    let [_, workload, writers, readers, count] = words else {
+        return None;
+    };
+    let writers = number_up_to(writers, MOST_CALLERS)?;
+    let readers = number_up_to(readers, MOST_CALLERS)?;
+    let count = number_up_to(count, MOST_OPERATIONS)?;
+    let nanoseconds = match workload.as_str() {
+        "chan" => hand_over::nanoseconds(rt, alloc, writers, readers, count),
+        "solo" => solo::nanoseconds(rt, alloc, count),
+        _ => return None,
+    };
+    Some(per_operation(nanoseconds, count))
+}
+
+fn main(rt: HostRuntime) -> io::Result<ExitCode> {
+    let mut words = Vec::new(rt.alloc());
+    for word in env::args(&rt)? {
+        words.push(word)?;
+    }
+    if words.len() <= 1 {
+        print_usage(&rt)?;
+        return Ok(ExitCode::SUCCESS);
+    }
+    match measured(&rt, rt.alloc(), &words) {
+        Some(Ok(nanoseconds)) => {
+            println!(rt; "{nanoseconds}")?;
+            Ok(ExitCode::SUCCESS)
+        }
+        Some(Err(trouble)) => {
+            println!(rt; "{trouble}")?;
+            Ok(ExitCode::from(FAILED_STATUS))
+        }
+        None => {
+            print_usage(&rt)?;
+            Ok(ExitCode::from(USAGE_STATUS))
+        }
+    }
+}
