@@ -38,7 +38,8 @@ pub fn try_add_any<T: Item, R: Wait>(
     item: T,
 ) -> Result<AnyAdd<T>, Unpaid<T>>
     requires { AllOf collections.now passes.old }
-    ensures { TriedAdd T.priority_of T.mark item [] passes.old passes.new result }
+    ensures tried { TriedAdd T.priority_of T.mark item [] passes.old passes.new result }
+    ensures still { AllOf collections.now passes.new }
 {
     if collections.is_empty() {
         return Ok(AnyAdd::NoCollection(item));
@@ -61,6 +62,7 @@ pub fn add_any<T: Item, R: Wait>(
     requires { AllOf collections.now passes.old }
     ensures word { token.new.word ≡ token.old.word }
     ensures added { AddedAny T.priority_of T.mark token.old.looks token.new.looks token.new.seen item passes.old passes.new result }
+    ensures still { AllOf collections.now passes.new }
 {
     let mut given = item;
     let backoff = Backoff::new();

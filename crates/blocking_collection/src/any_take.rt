@@ -34,7 +34,8 @@ pub fn try_take_any<T: Item, R: Wait>(
     passes: &mut [Pass],
 ) -> AnyTake<T>
     requires { AllOf collections.now passes.old }
-    ensures { TriedTake T.priority_of T.mark (λ j. []) passes.old passes.new result }
+    ensures tried { TriedTake T.priority_of T.mark (λ j. []) passes.old passes.new result }
+    ensures still { AllOf collections.now passes.new }
 {
     let mut all_ended = true;
     for i in 0..collections.len() {
@@ -65,6 +66,7 @@ pub fn take_any<T: Item, R: Wait>(
     requires { AllOf collections.now passes.old }
     ensures word { token.new.word ≡ token.old.word }
     ensures taken { TakenAny T.priority_of T.mark token.old.looks token.new.looks token.new.seen passes.old passes.new result }
+    ensures still { AllOf collections.now passes.new }
 {
     let backoff = Backoff::new();
     for _ in rt.forever() {

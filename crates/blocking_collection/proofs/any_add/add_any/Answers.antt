@@ -17,7 +17,7 @@ loop-init g c =
 pub returns-then-is_cancelled-clause-added : goal.returns-then-is_cancelled-clause-added
 returns-then-is_cancelled-clause-added g c =
     let pr = g.T.Item.priority_of in let mark = g.T.Item.mark in let x = c.args.item in let old = c.args.passes.now in let mid = c.loop.passes in let new = c.try_add_any.new.passes in
-    let did : TriedAdd pr mark x [] mid new (Ok (add.NoneUsed c.in-Ok-NoneUsed.back)) = told pr mark x mid new x c.loop.given c.in-Ok-NoneUsed.field-0 (add.NoneUsed c.in-Ok-NoneUsed.back) c.loop.invariant.2 c.in-Ok-NoneUsed.field-0-is c.in-Ok-NoneUsed.ensures in
+    let did : TriedAdd pr mark x [] mid new (Ok (add.NoneUsed c.in-Ok-NoneUsed.back)) = told pr mark x mid new x c.loop.given c.in-Ok-NoneUsed.field-0 (add.NoneUsed c.in-Ok-NoneUsed.back) c.loop.invariant.2 c.in-Ok-NoneUsed.field-0-is c.in-Ok-NoneUsed.ensures.tried in
     let set : c.is_cancelled.new.self.seen ≡ true = search rules in
     let one : c.is_cancelled.new.self.looks ≡ c.loop.token.looks + 1 = search rules in (
       did.0,
@@ -28,25 +28,25 @@ returns-then-is_cancelled-clause-added g c =
 pub returns-in-Ok-Index-clause-added : goal.returns-in-Ok-Index-clause-added
 returns-in-Ok-Index-clause-added g c =
     let pr = g.T.Item.priority_of in let mark = g.T.Item.mark in let x = c.args.item in let old = c.args.passes.now in let mid = c.loop.passes in let new = c.try_add_any.new.passes in let r = Ok (add.Index c.in-Ok-Index.i) in
-    let did : TriedAdd pr mark x [] mid new r = told pr mark x mid new x c.loop.given c.in-Ok-Index.field-0 (add.Index c.in-Ok-Index.i) c.loop.invariant.2 c.in-Ok-Index.field-0-is c.in-Ok-Index.ensures in
+    let did : TriedAdd pr mark x [] mid new r = told pr mark x mid new x c.loop.given c.in-Ok-Index.field-0 (add.Index c.in-Ok-Index.i) c.loop.invariant.2 c.in-Ok-Index.field-0-is c.in-Ok-Index.ensures.tried in
     ends (full_round (mark x)) _ (λ b. AllDid pr old (λ j. b) mid) (λ b. TriedAdd pr mark x b old new r) _ _ c.loop.invariant.5 (λ b a. after pr mark x b old mid new r a did)
 
 pub returns-in-Ok-Closed-clause-added : goal.returns-in-Ok-Closed-clause-added
 returns-in-Ok-Closed-clause-added g c =
     let pr = g.T.Item.priority_of in let mark = g.T.Item.mark in let x = c.args.item in let old = c.args.passes.now in let mid = c.loop.passes in let new = c.try_add_any.new.passes in let r = Ok (add.Closed c.in-Ok-Closed.i c.in-Ok-Closed.back) in
-    let did : TriedAdd pr mark x [] mid new r = told pr mark x mid new x c.loop.given c.in-Ok-Closed.field-0 (add.Closed c.in-Ok-Closed.i c.in-Ok-Closed.back) c.loop.invariant.2 c.in-Ok-Closed.field-0-is c.in-Ok-Closed.ensures in
+    let did : TriedAdd pr mark x [] mid new r = told pr mark x mid new x c.loop.given c.in-Ok-Closed.field-0 (add.Closed c.in-Ok-Closed.i c.in-Ok-Closed.back) c.loop.invariant.2 c.in-Ok-Closed.field-0-is c.in-Ok-Closed.ensures.tried in
     ends (full_round (mark x)) _ (λ b. AllDid pr old (λ j. b) mid) (λ b. TriedAdd pr mark x b old new r) _ _ c.loop.invariant.5 (λ b a. after pr mark x b old mid new r a did)
 
 pub returns-in-Err-clause-added : goal.returns-in-Err-clause-added
 returns-in-Err-clause-added g c =
     let pr = g.T.Item.priority_of in let mark = g.T.Item.mark in let x = c.args.item in let old = c.args.passes.now in let mid = c.loop.passes in let new = c.try_add_any.new.passes in
-    let did : TriedAdd pr mark x [] mid new (Err c.in-Err.unpaid) = rw c.loop.invariant.2 at c.in-Err.ensures in
+    let did : TriedAdd pr mark x [] mid new (Err c.in-Err.unpaid) = rw c.loop.invariant.2 at c.in-Err.ensures.tried in
     ends (full_round (mark x)) _ (λ b. AllDid pr old (λ j. b) mid) (λ b. TriedAdd pr mark x b old new (Err c.in-Err.unpaid)) _ _ c.loop.invariant.5 (λ b a. after pr mark x b old mid new (Err c.in-Err.unpaid) a did)
 
 pub loop-preserved : goal.loop-preserved
 loop-preserved g c =
     let pr = g.T.Item.priority_of in let mark = g.T.Item.mark in let x = c.args.item in let old = c.args.passes.now in let mid = c.loop.passes in let new = c.try_add_any.new.passes in
-    let did : TriedAdd pr mark x [] mid new (Ok (add.NoneUsed c.in-Ok-NoneUsed.back)) = told pr mark x mid new x c.loop.given c.in-Ok-NoneUsed.field-0 (add.NoneUsed c.in-Ok-NoneUsed.back) c.loop.invariant.2 c.in-Ok-NoneUsed.field-0-is c.in-Ok-NoneUsed.ensures in
+    let did : TriedAdd pr mark x [] mid new (Ok (add.NoneUsed c.in-Ok-NoneUsed.back)) = told pr mark x mid new x c.loop.given c.in-Ok-NoneUsed.field-0 (add.NoneUsed c.in-Ok-NoneUsed.back) c.loop.invariant.2 c.in-Ok-NoneUsed.field-0-is c.in-Ok-NoneUsed.ensures.tried in
     let unset : c.is_cancelled.new.self.seen ≡ false = search rules in
     let one : c.is_cancelled.new.self.looks ≡ c.loop.token.looks + 1 = search rules in
     let word : c.is_cancelled.new.self.word ≡ c.loop.token.word = search rules in (

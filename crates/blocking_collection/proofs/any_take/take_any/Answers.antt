@@ -17,21 +17,21 @@ loop-init g c =
 pub returns-in-Index-clause-taken : goal.returns-in-Index-clause-taken
 returns-in-Index-clause-taken g c =
     let pr = g.T.Item.priority_of in let mark = g.T.Item.mark in let old = c.args.passes.now in let mid = c.loop.passes in let new = c.try_take_any.new.passes in let r = take.Index c.in-Index.i c.in-Index.item in
-    take_ends (length old) _ (λ rs. AllDid pr old (no_items rs) mid) (λ rs. TriedTake pr mark (no_items rs) old new r) _ _ c.loop.invariant.5 (λ rs a. take_after pr mark (no_items rs) old mid new r a c.in-Index.ensures)
+    take_ends (length old) _ (λ rs. AllDid pr old (no_items rs) mid) (λ rs. TriedTake pr mark (no_items rs) old new r) _ _ c.loop.invariant.5 (λ rs a. take_after pr mark (no_items rs) old mid new r a c.in-Index.ensures.tried)
 
 pub returns-in-Ended-clause-taken : goal.returns-in-Ended-clause-taken
 returns-in-Ended-clause-taken g c =
     let pr = g.T.Item.priority_of in let mark = g.T.Item.mark in let old = c.args.passes.now in let mid = c.loop.passes in let new = c.try_take_any.new.passes in
-    take_ends (length old) _ (λ rs. AllDid pr old (no_items rs) mid) (λ rs. TriedTake pr mark (no_items rs) old new take.Ended) _ _ c.loop.invariant.5 (λ rs a. take_after pr mark (no_items rs) old mid new take.Ended a c.in-Ended.ensures)
+    take_ends (length old) _ (λ rs. AllDid pr old (no_items rs) mid) (λ rs. TriedTake pr mark (no_items rs) old new take.Ended) _ _ c.loop.invariant.5 (λ rs a. take_after pr mark (no_items rs) old mid new take.Ended a c.in-Ended.ensures.tried)
 
 pub returns-in-NoCollection-clause-taken : goal.returns-in-NoCollection-clause-taken
 returns-in-NoCollection-clause-taken g c =
     let pr = g.T.Item.priority_of in let mark = g.T.Item.mark in let old = c.args.passes.now in let mid = c.loop.passes in let new = c.try_take_any.new.passes in
-    take_ends (length old) _ (λ rs. AllDid pr old (no_items rs) mid) (λ rs. TriedTake pr mark (no_items rs) old new take.NoCollection) _ _ c.loop.invariant.5 (λ rs a. take_after pr mark (no_items rs) old mid new take.NoCollection a c.in-NoCollection.ensures)
+    take_ends (length old) _ (λ rs. AllDid pr old (no_items rs) mid) (λ rs. TriedTake pr mark (no_items rs) old new take.NoCollection) _ _ c.loop.invariant.5 (λ rs a. take_after pr mark (no_items rs) old mid new take.NoCollection a c.in-NoCollection.ensures.tried)
 
 pub returns-then-is_cancelled-clause-taken : goal.returns-then-is_cancelled-clause-taken
 returns-then-is_cancelled-clause-taken g c =
-    let pr = g.T.Item.priority_of in let old = c.args.passes.now in let mid = c.loop.passes in let new = c.try_take_any.new.passes in let t = c.in-NoneUsed.ensures in
+    let pr = g.T.Item.priority_of in let old = c.args.passes.now in let mid = c.loop.passes in let new = c.try_take_any.new.passes in let t = c.in-NoneUsed.ensures.tried in
     let set : c.is_cancelled.new.self.seen ≡ true = search rules in
     let one : c.is_cancelled.new.self.looks ≡ c.loop.token.looks + 1 = search rules in
     let empty : SomeEmpty (length old) t.0 = (t.1, subst (λ (n : ℕ). t.1 < n) c.loop.invariant.4 t.2, t.3) in
@@ -40,7 +40,7 @@ returns-then-is_cancelled-clause-taken g c =
 
 pub loop-preserved : goal.loop-preserved
 loop-preserved g c =
-    let pr = g.T.Item.priority_of in let old = c.args.passes.now in let mid = c.loop.passes in let new = c.try_take_any.new.passes in let t = c.in-NoneUsed.ensures in
+    let pr = g.T.Item.priority_of in let old = c.args.passes.now in let mid = c.loop.passes in let new = c.try_take_any.new.passes in let t = c.in-NoneUsed.ensures.tried in
     let unset : c.is_cancelled.new.self.seen ≡ false = search rules in
     let one : c.is_cancelled.new.self.looks ≡ c.loop.token.looks + 1 = search rules in
     let word : c.is_cancelled.new.self.word ≡ c.loop.token.word = search rules in

@@ -5,14 +5,16 @@ use Rattle.blocking_collection.specs.Anys.{no_item}
 use Rattle.blocking_collection.proofs.Doing.{did_step}
 use Rattle.blocking_collection.proofs.Places.{round_at}
 use Rattle.blocking_collection.proofs.Trying.{Taking, taking_start, taking_empty, taking_ended, taken_all, taken_none}
+use Rattle.blocking_collection.specs.declared.any_take.AnyTake.TheVariants as take
+use Rattle.blocking_collection.proofs.Still.{take_still}
 use Rattle.blocking_collection.proofs.any_take.try_take_any.Goals as goal
 use Rattle.blocking_collection.proofs.any_take.try_take_any.Goals.{in-Empty, in-Ended}
 
 pub loop-i-init : goal.loop-i-init
 loop-i-init g c = taking_start g.T.Item.priority_of c.args.passes.now
 
-pub returns-in-Item : goal.returns-in-Item
-returns-in-Item g c =
+pub returns-in-Item-clause-tried : goal.returns-in-Item-clause-tried
+returns-in-Item-clause-tried g c =
     let pr = g.T.Item.priority_of in
     let lt : c.loop-i.i < length c.args.passes.now = omega (arith, c.loop-i-test.true, c.requires.size) in
     let t = c.loop-i.invariant in
@@ -33,12 +35,21 @@ loop-i-preserved g c =
           (taking_ended pr old c.loop-i.passes c.loop-i.i c.index-passes-i.result c.one_take.new.pass c.loop-i.all_ended c.loop-i.invariant lt (did_step pr _ _ _ c.one_take.ensures.pass w.in-Ended.ensures.entry))
     ]
 
-pub returns-then-all_ended : goal.returns-then-all_ended
-returns-then-all_ended g c =
+pub returns-then-all_ended-clause-tried : goal.returns-then-all_ended-clause-tried
+returns-then-all_ended-clause-tried g c =
     let pr = g.T.Item.priority_of in
     (search rules, taken_all pr c.args.passes.now c.loop-i.passes c.loop-i.i (search rules) (subst (λ (b : Bool). Taking pr c.args.passes.now c.loop-i.i b c.loop-i.passes) c.if-all_ended.true c.loop-i.invariant))
 
-pub returns-else-all_ended : goal.returns-else-all_ended
-returns-else-all_ended g c =
+pub returns-else-all_ended-clause-tried : goal.returns-else-all_ended-clause-tried
+returns-else-all_ended-clause-tried g c =
     let pr = g.T.Item.priority_of in
     taken_none pr c.args.passes.now c.loop-i.passes c.loop-i.i (search rules) (subst (λ (b : Bool). Taking pr c.args.passes.now c.loop-i.i b c.loop-i.passes) c.if-all_ended.false c.loop-i.invariant)
+
+pub returns-in-Item-clause-still : goal.returns-in-Item-clause-still
+returns-in-Item-clause-still g c = take_still g.T.Item.priority_of g.T.Item.mark c.args.collections.now (λ j. []) c.args.passes.now _ (take.Index c.loop-i.i c.in-Item.item) c.requires (returns-in-Item-clause-tried g c)
+
+pub returns-then-all_ended-clause-still : goal.returns-then-all_ended-clause-still
+returns-then-all_ended-clause-still g c = take_still g.T.Item.priority_of g.T.Item.mark c.args.collections.now (λ j. []) c.args.passes.now _ take.Ended c.requires (returns-then-all_ended-clause-tried g c)
+
+pub returns-else-all_ended-clause-still : goal.returns-else-all_ended-clause-still
+returns-else-all_ended-clause-still g c = take_still g.T.Item.priority_of g.T.Item.mark c.args.collections.now (λ j. []) c.args.passes.now _ take.NoneUsed c.requires (returns-else-all_ended-clause-tried g c)
