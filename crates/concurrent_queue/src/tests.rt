@@ -69,17 +69,31 @@ fn the_largest_queue_is_made(rt: HostRuntime) -> Result<(), Fail> {
     Ok(())
 }
 
+fn at(position: u64) -> Receipt {
+    Receipt::Enqueued {
+        position,
+        segment: 0,
+    }
+}
+
+fn looked(head: u64, tail: u64) -> Receipt {
+    Receipt::Looked { head, tail }
+}
+
+/// Why no queue for one caller is made, if none is.
+fn refused(rt: &HostRuntime, room: u32, first_len: u32) -> Option<QueueRefused> {
+    match ConcurrentQueue::new(rt.alloc(), room, first_len, 1) {
+        Ok(_) => None,
+        Err(refused) => Some(refused),
+    }
+}
+
 #[test]
 fn receipts_tell_the_counts_before(rt: HostRuntime) -> Result<(), Fail> {
     let Ok((queue, mut pass)) = ConcurrentQueue::new(rt.alloc(), 2, 2, 1) else {
         assert!(rt; false);
         return Ok(());
     };
-    let at = |position| Receipt::Enqueued {
-        position,
-        segment: 0,
-    };
-    let looked = |head, tail| Receipt::Looked { head, tail };
     assert_eq!(rt; queue.room(), 2);
     assert_eq!(rt;
         queue.enqueue(&rt, &mut pass, 7),
@@ -127,16 +141,12 @@ fn receipts_tell_the_counts_before(rt: HostRuntime) -> Result<(), Fail> {
 
 #[test]
 fn rooms_and_lengths_are_refused_in_order(rt: HostRuntime) -> Result<(), Fail> {
-    let refused = |room, first_len| match ConcurrentQueue::new(rt.alloc(), room, first_len, 1) {
-        Ok(_) => None,
-        Err(refused) => Some(refused),
-    };
-    assert_eq!(rt; refused(0, 2), Some(QueueRefused::BadRoom));
-    assert_eq!(rt; refused(65_537, 3), Some(QueueRefused::BadRoom));
-    assert_eq!(rt; refused(8, 3), Some(QueueRefused::BadLength));
-    assert_eq!(rt; refused(8, 1), Some(QueueRefused::BadLength));
-    assert_eq!(rt; refused(8, 2_048), Some(QueueRefused::BadLength));
-    assert_eq!(rt; refused(65_536, 1_024), None);
+    assert_eq!(rt; refused(&rt, 0, 2), Some(QueueRefused::BadRoom));
+    assert_eq!(rt; refused(&rt, 65_537, 3), Some(QueueRefused::BadRoom));
+    assert_eq!(rt; refused(&rt, 8, 3), Some(QueueRefused::BadLength));
+    assert_eq!(rt; refused(&rt, 8, 1), Some(QueueRefused::BadLength));
+    assert_eq!(rt; refused(&rt, 8, 2_048), Some(QueueRefused::BadLength));
+    assert_eq!(rt; refused(&rt, 65_536, 1_024), None);
     Ok(())
 }
 

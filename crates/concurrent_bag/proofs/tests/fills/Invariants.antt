@@ -2,4 +2,4 @@ use Rattle.std.proofs.Common.{◌≡◌, ◌+◌, ◌≤◌}
 use Rattle.concurrent_bag.proofs.tests.fills.Given as goal
 
 abbrev pub invariant-loop-item : goal.invariant-loop-item
-invariant-loop-item g l = (l.bag.callers ≡ l.initial.bag.callers) × (l.bag.steps ≤ l.initial.bag.steps + l.item)
+invariant-loop-item l = (l.bag.callers ≡ l.initial.bag.callers) × (l.bag.steps ≤ l.initial.bag.steps + l.item)
