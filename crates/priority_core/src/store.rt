@@ -149,11 +149,19 @@ impl<T: Marked> ItemStore<T> for PriorityStore<T> {
         self.first_number()
     }
 
-    fn replace_oldest(&mut self, _item: T) -> T {
-        unreachable!()
+    // A heap is never full, so nothing is replaced.
+    fn replace_oldest(&mut self, item: T) -> T
+        ensures back { result ≡ item }
+        ensures unchanged { self.new ≡ self.old }
+    {
+        item
     }
 
-    fn replace_newest(&mut self, _item: T) -> T {
-        unreachable!()
+    // The same.
+    fn replace_newest(&mut self, item: T) -> T
+        ensures back { result ≡ item }
+        ensures unchanged { self.new ≡ self.old }
+    {
+        item
     }
 }
