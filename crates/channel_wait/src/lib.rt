@@ -27,3 +27,6 @@ pub use calls::{read, write};
 pub use ends::{Begun, LookEnd, ReadEnd, WriteEnd};
 pub use read_wait::ReadWait;
 pub use write_wait::WriteWait;
+
+#[cfg(test)]
+mod tests;
