@@ -9,7 +9,7 @@ use Rattle.passes.specs.Seen.{SeesOthers, SeesEntry, SeesOwn, IsLawful}
 use Rattle.passes.proofs.Owned.{others_on, entry_on, entry_own, others_own, own_on}
 use Rattle.turn_lock.specs.Passes.{PassView}
 use Rattle.turn_lock.specs.Calls.{IsSamePass, AddsOne, AddsNoEntry}
-use Rattle.blocking_collection.specs.Deeds.{Deed, by, Makes, Did}
+use Rattle.blocking_collection.specs.Deeds.{Deed, by, IsUnmoved, Makes, Did}
 
 -- others come first, and then what is made
 others_makes : (held : List Bool) (a b c : List EntryMark) (es : List EntryMark) → SeesOthers held a b → Makes held b es c → Makes held a es c
@@ -31,10 +31,14 @@ pub makes_own : (held : List Bool) (a b : List EntryMark) (es : List EntryMark) 
 makes_own held a b [] own m = others_own held a b m
 makes_own held a b (e ∷ es) own m = own_on held a m.1 b (e ∷ []) es (entry_own held a m.1 m.0 e own.0 m.2) (makes_own held m.1 b es own.1 m.3)
 
-same_pass : (p : PassView) → IsSamePass p p
+same_pass : (p : PassView) → IsUnmoved p p
 same_pass p = record { table = refl; object = refl; callers = refl; caller = refl; held = refl }
 
-same_on : (p q r : PassView) → IsSamePass p q → IsSamePass q r → IsSamePass p r
+-- what a single call keeps
+unmoved : (p q : PassView) → IsSamePass p q → IsUnmoved p q
+unmoved p q same = record { table = same.table; object = same.object; callers = same.callers; caller = same.caller; held = same.held }
+
+same_on : (p q r : PassView) → IsUnmoved p q → IsUnmoved q r → IsUnmoved p r
 same_on p q r a b = record {
   table = b.table ∙ a.table;
   object = b.object ∙ a.object;
@@ -51,16 +55,16 @@ module _ (priority : Mark → ℕ) where
   -- a call that made an entry, and one that made none
   pub did_step : (p q : PassView) (d : Deed) → IsSamePass p q → AddsOne priority p (by p.caller d) q → Did priority p (d ∷ []) q
   did_step p q d same s = record {
-    same = same;
+    same = unmoved p q same;
     met = s.1.met;
     makes = (s.0, q.seen, s.1.seen, ([], sym (append-nil q.seen), tt));
     lawful = inr s.1.lawful;
   }
 
   pub did_keep : (p q : PassView) → IsSamePass p q → AddsNoEntry priority p q → q.met ≡ p.met → Did priority p [] q
-  did_keep p q same k met = record { same = same; met = met; makes = k.seen; lawful = inr k.lawful }
+  did_keep p q same k met = record { same = unmoved p q same; met = met; makes = k.seen; lawful = inr k.lawful }
 
-  lawful_on : (p q r : PassView) → IsSamePass p q → (q.seen ≡ p.seen) ⊎ IsLawful priority p.object p.callers q.seen → (r.seen ≡ q.seen) ⊎ IsLawful priority q.object q.callers r.seen → (r.seen ≡ p.seen) ⊎ IsLawful priority p.object p.callers r.seen
+  lawful_on : (p q r : PassView) → IsUnmoved p q → (q.seen ≡ p.seen) ⊎ IsLawful priority p.object p.callers q.seen → (r.seen ≡ q.seen) ⊎ IsLawful priority q.object q.callers r.seen → (r.seen ≡ p.seen) ⊎ IsLawful priority p.object p.callers r.seen
   lawful_on p q r same (inl a) (inl b) = inl (b ∙ a)
   lawful_on p q r same (inr a) (inl b) = inr (subst (λ (h : List EntryMark). IsLawful priority p.object p.callers h) (sym b) a)
   lawful_on p q r same a (inr b) = inr (subst (λ (x : Object × ℕ). IsLawful priority x.0 x.1 r.seen) (λ i. (same.object i, same.callers i)) b)

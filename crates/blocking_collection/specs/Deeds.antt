@@ -9,7 +9,6 @@ use Rattle.ho_model.specs.declared.marks.EntryMark.{EntryMark}
 use Rattle.ho_model.specs.Entries.{entry}
 use Rattle.passes.specs.Seen.{SeesOthers, SeesEntry, IsLawful}
 use Rattle.turn_lock.specs.Passes.{PassView}
-use Rattle.turn_lock.specs.Calls.{IsSamePass}
 
 -- an own entry without its caller
 pub record Deed : Type 0 where
@@ -27,10 +26,18 @@ abbrev pub Makes : List Bool → List EntryMark → List EntryMark → List Entr
 Makes held seen [] later = SeesOthers held seen later
 Makes held seen (e ∷ es) later = (before mid : List EntryMark) × SeesEntry held seen before e mid × Makes held mid es later
 
+-- the same object, caller and numbers
+pub record IsUnmoved (p q : PassView) : Type 0 where
+  pub table : q.table ≡ p.table
+  pub object : q.object ≡ p.object
+  pub callers : q.callers ≡ p.callers
+  pub caller : q.caller ≡ p.caller
+  pub held : q.held ≡ p.held
+
 -- The pass is of the same object, caller and numbers, and has met no obstacle. Its own entries are
 -- these. Where anything more was seen, all of it is legal.
 pub record Did (priority : Mark → ℕ) (p : PassView) (ds : List Deed) (q : PassView) : Type 0 where
-  pub same : IsSamePass p q
+  pub same : IsUnmoved p q
   pub met : q.met ≡ p.met
   pub makes : Makes p.held p.seen (map (by p.caller) ds) q.seen
   pub lawful : (q.seen ≡ p.seen) ⊎ IsLawful priority p.object p.callers q.seen
