@@ -6,6 +6,9 @@
 //! refused row, a stage's answer the outcome of that stage, and the text that of the outcomes of all
 //! fed records. It stands on `ho_base`, on `csv` for rows, on `itoa` for digits and on `smallvec` for
 //! fields, of which most are short.
+//!
+//! Want of memory is the one free answer: a `Field::new`, a `row_line` or a `one_thread_text` that always
+//! gave it would be proved, so tests call each with ample memory.
 #![tactic(auto)]
 
 mod causes;
