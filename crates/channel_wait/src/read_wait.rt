@@ -6,7 +6,6 @@ ghost use Rattle.ho_model.specs.Entries.{entry};
 ghost use Rattle.ho_model.specs.declared.marks.CallMark.TheVariants.{BeginRead, Cancel};
 ghost use Rattle.ho_model.specs.declared.marks.ReplyMark.TheVariants.{Waiting};
 ghost use Rattle.channel_core.specs.Marks.{reply_mark};
-ghost use Rattle.channel_laws.specs.Reached.{IsChannelObject};
 ghost use Rattle.turn_lock.specs.Calls.{IsSamePass, AddsOne};
 ghost use Rattle.channel_wait.specs.Ends.{IfWaiting, read_reply};
 ghost use Rattle.channel_wait.specs.Open.{IsOpenRead};
@@ -52,7 +51,6 @@ impl<'a, 'c, T: Item> ReadWait<'a, 'c, T> {
         rt: &R,
         reader: &'a mut Reader<'c, T>,
     ) -> Result<Begun<ReadWait<'a, 'c, T>, ReadEnd<T>>, NoMemory>
-        requires { IsChannelObject reader.old.object }
         ensures waiting { IfOk result (IfWaiting (λ w. (w.reader.ghost_name ≡ reader.entry.ghost_name)
             × IsSamePass reader.old w.reader.now
             × AddsOne T.priority_of reader.old (entry reader.old.caller BeginRead (Waiting w.number)) w.reader.now

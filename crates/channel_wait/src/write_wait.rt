@@ -7,7 +7,6 @@ ghost use Rattle.ho_model.specs.Entries.{entry};
 ghost use Rattle.ho_model.specs.declared.marks.CallMark.TheVariants.{BeginWrite, Cancel};
 ghost use Rattle.ho_model.specs.declared.marks.ReplyMark.TheVariants.{Waiting};
 ghost use Rattle.channel_core.specs.Marks.{reply_mark};
-ghost use Rattle.channel_laws.specs.Reached.{IsChannelObject};
 ghost use Rattle.turn_lock.specs.Calls.{IsSamePass, AddsOne};
 ghost use Rattle.channel_wait.specs.Ends.{IfEnded, IfWaiting, HandsBack, write_reply};
 ghost use Rattle.channel_wait.specs.Open.{IsOpenWrite, IsOpenWriteOf};
@@ -54,7 +53,6 @@ impl<'a, 'c, T: Item> WriteWait<'a, 'c, T> {
         writer: &'a mut Writer<'c, T>,
         item: T,
     ) -> Result<Begun<WriteWait<'a, 'c, T>, WriteEnd<T>>, Unpaid<T>>
-        requires { IsChannelObject writer.old.object }
         ensures waiting { IfOk result (IfWaiting (λ w. (w.writer.ghost_name ≡ writer.entry.ghost_name)
             × IsSamePass writer.old w.writer.now
             × AddsOne T.priority_of writer.old (entry writer.old.caller (BeginWrite (T.mark item)) (Waiting w.number)) w.writer.now
