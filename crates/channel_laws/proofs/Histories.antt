@@ -1,5 +1,5 @@
 -- What holds of every state that a history reaches.
-use Rattle.std.specs.Prelude.{◌≡◌, ℕ, ◌<◌, ◌↔◌, List, [], ◌∷◌, Bool, true, false, Option, Some, None, is_some, length, ◌==◌}
+use Rattle.std.specs.Prelude.{◌≡◌, ℕ, ◌<◌, ◌↔◌, List, [], ◌∷◌, ◌++◌, Bool, true, false, Option, Some, None, is_some, length, ◌==◌}
 use Rattle.std.specs.List.{AllByRecursion}
 use Rattle.std.proofs.Common.{refl, ap, sym, ◌∙◌, subst, arith}
 use Rattle.std.proofs.lemmas.Bool.{and_parts, eqb-true, both_ways}
@@ -8,24 +8,38 @@ use Rattle.ho_model.specs.declared.objects.Object.TheVariants as object
 use Rattle.ho_base.specs.Marks.{Mark}
 use Rattle.ho_model.specs.declared.marks.ReplyMark.{ReplyMark}
 use Rattle.ho_model.specs.declared.marks.EntryMark.{EntryMark}
-use Rattle.ho_model.specs.declared.marks.CallMark.TheVariants.{Completed}
+use Rattle.ho_model.specs.declared.objects.Store.{Store}
+use Rattle.ho_model.specs.declared.marks.CallMark.{CallMark}
+use Rattle.ho_model.specs.declared.marks.CallMark.TheVariants.{BeginWrite, BeginRead, BeginLookWrite, BeginLookRead, Completed}
 use Rattle.ho_model.specs.declared.marks.ReplyMark.TheVariants.{Flag}
 use Rattle.ho_model.specs.Channel.{Channel, Kind, Outcome, Standing, WantsItem, WantsRoom, LooksForItem, LooksForRoom, Answered, Waiter, is_completed, is_waiting, channel_answer, empty_channel}
-use Rattle.ho_model.specs.Objects.{State, ChannelState, object_step, channel_step, stepped, most_callers, empty_state}
-use Rattle.ho_model.proofs.Folds.{and_then_some}
+use Rattle.ho_model.specs.Entries.{entry}
+use Rattle.ho_model.specs.Objects.{State, QueueState, BagState, ChannelState, BlockingState, object_step, queue_step, bag_object_step, channel_step, blocking_step, stepped, most_callers, empty_state}
+use Rattle.ho_model.proofs.Folds.{and_then_some, legal_last}
 use Rattle.ho_model.proofs.Replies.{channel_entry_is, accepted_caller}
-use Rattle.ho_model.specs.Histories.{fold_from, state_after}
-use Rattle.channel_laws.specs.Reached.{IsSettled, IsReached, IsChannelObject, Reaches, kind_in}
+use Rattle.ho_model.specs.Histories.{fold_from, state_after, IsLegal}
+use Rattle.channel_laws.specs.Kinds.{is_begin}
+use Rattle.channel_laws.specs.Reached.{IsSettled, IsReached, IsChannel, IsChannelObject, Reaches, kind_in}
+use Rattle.channel_laws.proofs.Naming.{HasNamed, StaysNamed, names_stay, empty_is_named}
 use Rattle.channel_laws.proofs.Settling.{HasRoom, StaysReached, steps_stay, empty_is_reached}
 
 -- an entry of a channel object is one of its channel
-pub kind_is : (priority : Mark → ℕ) (o : Object) → IsChannelObject o → (s : Channel) (e : EntryMark) → stepped priority o (ChannelState s) e ≡ channel_step (kind_in priority o) (ChannelState s) e
+pub kind_is : (priority : Mark → ℕ) (o : Object) → IsChannel o → (s : Channel) (e : EntryMark) → stepped priority o (ChannelState s) e ≡ channel_step (kind_in priority o) (ChannelState s) e
 kind_is priority object.Unbounded room s e = refl
 kind_is priority (object.Bounded capacity mode) room s e = refl
 kind_is priority object.Prioritized room s e = refl
 kind_is priority (object.Queue room' first) room s e = absurd room
 kind_is priority object.Bag room s e = absurd room
 kind_is priority (object.Blocking store bound) room s e = absurd room
+
+-- a channel with room is a channel
+is_channel : (o : Object) → IsChannelObject o → IsChannel o
+is_channel object.Unbounded room = tt
+is_channel (object.Bounded capacity mode) room = tt
+is_channel object.Prioritized room = tt
+is_channel (object.Queue room' first) room = absurd room
+is_channel object.Bag room = absurd room
+is_channel (object.Blocking store bound) room = absurd room
 
 has_room : (priority : Mark → ℕ) (o : Object) → IsChannelObject o → HasRoom (kind_in priority o).capacity
 has_room priority object.Unbounded room = tt
@@ -35,7 +49,7 @@ has_room priority (object.Queue room' first) room = absurd room
 has_room priority object.Bag room = absurd room
 has_room priority (object.Blocking store bound) room = absurd room
 
-pub starts_empty : (o : Object) → IsChannelObject o → empty_state o ≡ ChannelState empty_channel
+pub starts_empty : (o : Object) → IsChannel o → empty_state o ≡ ChannelState empty_channel
 starts_empty object.Unbounded room = refl
 starts_empty (object.Bounded capacity mode) room = refl
 starts_empty object.Prioritized room = refl
@@ -50,7 +64,7 @@ pub record IsEntry (kind : Kind) (s : Channel) (e : EntryMark) (t : State) : Typ
   pub state : t ≡ ChannelState after
   pub answer : ◌≡◌ {A = Option Outcome} (channel_answer kind s e.caller e.call) (Some (e.reply, after))
 
-pub entry_is : (priority : Mark → ℕ) (o : Object) → IsChannelObject o → (s : Channel) (e : EntryMark) (t : State) → object_step priority o (ChannelState s) e ≡ Some t → IsEntry (kind_in priority o) s e t
+pub entry_is : (priority : Mark → ℕ) (o : Object) → IsChannel o → (s : Channel) (e : EntryMark) (t : State) → object_step priority o (ChannelState s) e ≡ Some t → IsEntry (kind_in priority o) s e t
 entry_is priority o room s e t h =
     let by = accepted_caller priority o (ChannelState s) t e h in
     let own = channel_entry_is (kind_in priority o) s e t (sym (kind_is priority o room s e) ∙ by.1) in
@@ -60,14 +74,65 @@ runs_stay : (priority : Mark → ℕ) (o : Object) → IsChannelObject o → (es
 runs_stay priority o room [] s t was h = let e : ChannelState s ≡ t = cc in (s, sym e, was)
 runs_stay priority o room (e ∷ es) s t was h =
     let by = and_then_some (λ n. fold_from priority o n es) (object_step priority o (ChannelState s) e) t h in
-    let own = entry_is priority o room s e by.0 by.1 in
+    let own = entry_is priority o (is_channel o room) s e by.0 by.1 in
     let kept = steps_stay (kind_in priority o) s e.caller e.call (has_room priority o room) own.caller was in
     runs_stay priority o room es own.after t (subst (StaysReached (kind_in priority o)) own.answer kept) (subst (λ (n : State). fold_from priority o n es ≡ Some t) own.state by.2)
 
 -- what a legal history of a channel object reaches
 pub history_reaches : (priority : Mark → ℕ) (o : Object) (history : List EntryMark) (t : State) → IsChannelObject o → state_after priority o history ≡ Some t → (x : Channel) × (t ≡ ChannelState x) × IsReached (kind_in priority o) x
 history_reaches priority o history t room h =
-    runs_stay priority o room history empty_channel t (empty_is_reached (kind_in priority o)) (subst (λ (n : State). fold_from priority o n history ≡ Some t) (starts_empty o room) h)
+    runs_stay priority o room history empty_channel t (empty_is_reached (kind_in priority o)) (subst (λ (n : State). fold_from priority o n history ≡ Some t) (starts_empty o (is_channel o room)) h)
+
+runs_named : (priority : Mark → ℕ) (o : Object) → IsChannel o → (es : List EntryMark) (s : Channel) (t : State) → HasNamed s → fold_from priority o (ChannelState s) es ≡ Some t → (x : Channel) × (t ≡ ChannelState x) × HasNamed x
+runs_named priority o is [] s t was h = let e : ChannelState s ≡ t = cc in (s, sym e, was)
+runs_named priority o is (e ∷ es) s t was h =
+    let by = and_then_some (λ n. fold_from priority o n es) (object_step priority o (ChannelState s) e) t h in
+    let own = entry_is priority o is s e by.0 by.1 in
+    let kept = names_stay (kind_in priority o) s e.caller e.call own.caller was in
+    runs_named priority o is es own.after t (subst StaysNamed own.answer kept) (subst (λ (n : State). fold_from priority o n es ≡ Some t) own.state by.2)
+
+-- after a legal history of a channel of any capacity each wait has a name of its own
+pub history_names : (priority : Mark → ℕ) (o : Object) (history : List EntryMark) (t : State) → IsChannel o → state_after priority o history ≡ Some t → (x : Channel) × (t ≡ ChannelState x) × HasNamed x
+history_names priority o history t is h =
+    runs_named priority o is history empty_channel t empty_is_named (subst (λ (n : State). fold_from priority o n history ≡ Some t) (starts_empty o is) h)
+
+-- no other object accepts a begin
+queue_begins_not : (room : ℕ) (s t : State) (c : ℕ) (call : CallMark) (r : ReplyMark) → is_begin call ≡ true → queue_step room s (entry c call r) ≡ Some t → ⊥
+queue_begins_not room (QueueState items) t c (BeginWrite x) r so h = let no : None ≡ Some t = h in cc
+queue_begins_not room (QueueState items) t c BeginRead r so h = let no : None ≡ Some t = h in cc
+queue_begins_not room (QueueState items) t c BeginLookRead r so h = let no : None ≡ Some t = h in cc
+queue_begins_not room (QueueState items) t c BeginLookWrite r so h = let no : None ≡ Some t = h in cc
+queue_begins_not room (QueueState items) t c _ r so h = both_ways false refl so
+queue_begins_not room _ t c call r so h = let no : None ≡ Some t = h in cc
+
+bag_begins_not : (s t : State) (c : ℕ) (call : CallMark) (r : ReplyMark) → is_begin call ≡ true → bag_object_step s (entry c call r) ≡ Some t → ⊥
+bag_begins_not (BagState lists) t c (BeginWrite x) r so h = let no : None ≡ Some t = h in cc
+bag_begins_not (BagState lists) t c BeginRead r so h = let no : None ≡ Some t = h in cc
+bag_begins_not (BagState lists) t c BeginLookRead r so h = let no : None ≡ Some t = h in cc
+bag_begins_not (BagState lists) t c BeginLookWrite r so h = let no : None ≡ Some t = h in cc
+bag_begins_not (BagState lists) t c _ r so h = both_ways false refl so
+bag_begins_not _ t c call r so h = let no : None ≡ Some t = h in cc
+
+blocking_begins_not : (store : Store) (bound : Option ℕ) (s t : State) (c : ℕ) (call : CallMark) (r : ReplyMark) → is_begin call ≡ true → blocking_step store bound s (entry c call r) ≡ Some t → ⊥
+blocking_begins_not store bound (BlockingState b) t c (BeginWrite x) r so h = let no : None ≡ Some t = h in cc
+blocking_begins_not store bound (BlockingState b) t c BeginRead r so h = let no : None ≡ Some t = h in cc
+blocking_begins_not store bound (BlockingState b) t c BeginLookRead r so h = let no : None ≡ Some t = h in cc
+blocking_begins_not store bound (BlockingState b) t c BeginLookWrite r so h = let no : None ≡ Some t = h in cc
+blocking_begins_not store bound (BlockingState b) t c _ r so h = both_ways false refl so
+blocking_begins_not store bound _ t c call r so h = let no : None ≡ Some t = h in cc
+
+begun_of_channel : (priority : Mark → ℕ) (o : Object) (s t : State) (e : EntryMark) → is_begin e.call ≡ true → stepped priority o s e ≡ Some t → IsChannel o
+begun_of_channel priority object.Unbounded s t e so h = tt
+begun_of_channel priority (object.Bounded capacity mode) s t e so h = tt
+begun_of_channel priority object.Prioritized s t e so h = tt
+begun_of_channel priority (object.Queue room first) s t e so h = queue_begins_not room s t e.caller e.call e.reply so h
+begun_of_channel priority object.Bag s t e so h = bag_begins_not s t e.caller e.call e.reply so h
+begun_of_channel priority (object.Blocking store bound) s t e so h = blocking_begins_not store bound s t e.caller e.call e.reply so h
+
+pub begins_are_of_channels : (priority : Mark → ℕ) (o : Object) (before : List EntryMark) (e : EntryMark) → is_begin e.call ≡ true → IsLegal priority o (before ++ e ∷ []) → IsChannel o
+begins_are_of_channels priority o before e so legal =
+    let last = legal_last priority o before e legal in
+    begun_of_channel priority o last.0 last.1 e so (accepted_caller priority o last.0 last.1 e last.2).1
 
 abbrev channel_in : State → Channel
 channel_in (ChannelState s) = s

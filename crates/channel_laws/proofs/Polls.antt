@@ -1,7 +1,7 @@
 -- A poll or a cancel of a wait answers in the kind of the begin that left it, after every legal history.
 use Rattle.std.specs.Prelude.{ℕ, List, [], ◌∷◌, ◌++◌, Bool, true, false, not, ◌&&◌, ◌||◌, ◌==◌, Option, Some, None, nat_le, slice_index, is_some, unwrap_or, length}
 use Rattle.std.specs.List.{AllByRecursion, position_or_len}
-use Rattle.std.proofs.Common.{◌≡◌, refl, ap, sym, ◌∙◌, subst, ◌<◌, ◌⊎◌, arith}
+use Rattle.std.proofs.Common.{◌≡◌, refl, ap, sym, ◌∙◌, subst, ◌<◌, ◌⊎◌, arith, append_assoc}
 use Rattle.std.proofs.lemmas.Bool.{and_parts, eqb-true, eq-eqb, both_ways}
 use Rattle.ho_base.specs.Marks.{Mark}
 use Rattle.ho_model.specs.declared.objects.Mode.{Mode}
@@ -17,12 +17,12 @@ use Rattle.ho_model.specs.Channel.{Standing, WantsItem, WantsRoom, LooksForItem,
 use Rattle.ho_model.specs.Objects.{State, ChannelState, object_step, empty_state}
 use Rattle.ho_model.specs.Histories.{fold_from, IsLegal}
 use Rattle.ho_model.proofs.Folds.{and_then_some, fold_append, begins_from, legal_begins}
-use Rattle.channel_laws.specs.Reached.{IsNamed, IsChannelObject, kind_in}
+use Rattle.channel_laws.specs.Reached.{IsNamed, IsChannel, kind_in}
 use Rattle.channel_laws.specs.Twin.{is_of_wait}
 use Rattle.channel_laws.specs.Kinds.{AnswersBegin, CancelsBegin, IsInKind, StandsAs, is_waiting_reply, ends_by, ends_wait, is_begin}
 use Rattle.channel_laws.proofs.Places.{some_of}
 use Rattle.channel_laws.proofs.InKind.{KeepsKind, as_push, others_keep, own_standing, own_poll, own_poll_step, own_cancel}
-use Rattle.channel_laws.proofs.Histories.{entry_is, history_reaches}
+use Rattle.channel_laws.proofs.Histories.{entry_is, history_names, begins_are_of_channels}
 
 -- 1. Answers are no replies of a wait that stands
 
@@ -91,13 +91,13 @@ entry_step kind b c n s x e true own h last is = own_step kind b c n s x e.calle
 entry_step kind b c n s x e false other h last is = subst (KeepsKind b c n) is (others_keep kind b c n s h e.caller e.call other)
 
 -- entries that do not end the wait leave it in kind
-entries_keep : (priority : Mark → ℕ) (o : Object) → IsChannelObject o → (b : CallMark) (c n : ℕ) (es : List EntryMark) (s : Channel) (t : State) → StandsAs b c n s.waits → AllByRecursion (λ e. ends_wait c n e ≡ false) es → fold_from priority o (ChannelState s) es ≡ Some t
+entries_keep : (priority : Mark → ℕ) (o : Object) → IsChannel o → (b : CallMark) (c n : ℕ) (es : List EntryMark) (s : Channel) (t : State) → StandsAs b c n s.waits → AllByRecursion (λ e. ends_wait c n e ≡ false) es → fold_from priority o (ChannelState s) es ≡ Some t
     → (x : Channel) × (t ≡ ChannelState x) × StandsAs b c n x.waits
-entries_keep priority o room b c n [] s t h last f = let e : ChannelState s ≡ t = cc in (s, sym e, h)
-entries_keep priority o room b c n (e ∷ es) s t h last f =
+entries_keep priority o channel b c n [] s t h last f = let e : ChannelState s ≡ t = cc in (s, sym e, h)
+entries_keep priority o channel b c n (e ∷ es) s t h last f =
     let by = and_then_some (λ u. fold_from priority o u es) (object_step priority o (ChannelState s) e) t f in
-    let own = entry_is priority o room s e by.0 by.1 in
-    entries_keep priority o room b c n es own.after t
+    let own = entry_is priority o channel s e by.0 by.1 in
+    entries_keep priority o channel b c n es own.after t
     (entry_step (kind_in priority o) b c n s own.after e (is_of_wait c n e.caller e.call) refl h last.0 own.answer)
     last.1
     (subst (λ (u : State). fold_from priority o u es ≡ Some t) own.state by.2)
@@ -191,37 +191,38 @@ record IsLast (kind : Kind) (b : CallMark) (c n : ℕ) (call : CallMark) (r : Re
   pub stands : StandsAs b c n before.waits
   pub answer : ◌≡◌ {A = Option Outcome} (channel_answer kind before c call) (Some (r, after))
 
-last_is : (priority : Mark → ℕ) (o : Object) (before rest : List EntryMark) (c n : ℕ) (b call : CallMark) (r : ReplyMark) → IsChannelObject o → is_begin b ≡ true → AllByRecursion (λ e. ends_wait c n e ≡ false) rest
+last_is : (priority : Mark → ℕ) (o : Object) (before rest : List EntryMark) (c n : ℕ) (b call : CallMark) (r : ReplyMark) → is_begin b ≡ true → AllByRecursion (λ e. ends_wait c n e ≡ false) rest
     → IsLegal priority o (before ++ entry c b (Waiting n) ∷ (rest ++ entry c call r ∷ [])) → IsLast (kind_in priority o) b c n call r
-last_is priority o before rest c n b call r room so last legal =
+last_is priority o before rest c n b call r so last legal =
     let t = legal.0 in
     let es = rest ++ entry c call r ∷ [] in
     let first = legal_begins priority o before (entry c b (Waiting n) ∷ es) legal in
-    let reached = history_reaches priority o before first.0 room first.1 in
+    let channel = begins_are_of_channels priority o before (entry c b (Waiting n)) so (legal_begins priority o (before ++ entry c b (Waiting n) ∷ []) es (subst (IsLegal priority o) (sym (append_assoc before (entry c b (Waiting n) ∷ []) es)) legal)) in
+    let reached = history_names priority o before first.0 channel first.1 in
     let from_first : fold_from priority o first.0 (entry c b (Waiting n) ∷ es) ≡ Some t = sym (fold_append priority o (empty_state o) first.0 before (entry c b (Waiting n) ∷ es) first.1) ∙ legal.1 in
     let from_begin = subst (λ (u : State). fold_from priority o u (entry c b (Waiting n) ∷ es) ≡ Some t) reached.1 from_first in
     let by = and_then_some (λ u. fold_from priority o u es) (object_step priority o (ChannelState reached.0) (entry c b (Waiting n))) t from_begin in
-    let own = entry_is priority o room reached.0 (entry c b (Waiting n)) by.0 by.1 in
+    let own = entry_is priority o channel reached.0 (entry c b (Waiting n)) by.0 by.1 in
     let stands = begin_stands (kind_in priority o) b c n reached.0 own.after reached.2.named so own.answer in
     let from_wait = subst (λ (u : State). fold_from priority o u es ≡ Some t) own.state by.2 in
     let until = begins_from priority o (ChannelState own.after) t rest (entry c call r ∷ []) from_wait in
-    let kept = entries_keep priority o room b c n rest own.after until.0 stands last until.1 in
+    let kept = entries_keep priority o channel b c n rest own.after until.0 stands last until.1 in
     let from_last : fold_from priority o until.0 (entry c call r ∷ []) ≡ Some t = sym (fold_append priority o (ChannelState own.after) until.0 rest (entry c call r ∷ []) until.1) ∙ from_wait in
     let from_kept = subst (λ (u : State). fold_from priority o u (entry c call r ∷ []) ≡ Some t) kept.1 from_last in
     let end = and_then_some (λ u. fold_from priority o u []) (object_step priority o (ChannelState kept.0) (entry c call r)) t from_kept in
-    let said = entry_is priority o room kept.0 (entry c call r) end.0 end.1 in
+    let said = entry_is priority o channel kept.0 (entry c call r) end.0 end.1 in
     record { before = kept.0; after = said.after; stands = kept.2; answer = said.answer }
 
-pub polls_in_kind : (priority : Mark → ℕ) (o : Object) (before rest : List EntryMark) (c n : ℕ) (b : CallMark) (r : ReplyMark) → IsChannelObject o → is_begin b ≡ true → AllByRecursion (λ e. ends_wait c n e ≡ false) rest
+pub polls_in_kind : (priority : Mark → ℕ) (o : Object) (before rest : List EntryMark) (c n : ℕ) (b : CallMark) (r : ReplyMark) → is_begin b ≡ true → AllByRecursion (λ e. ends_wait c n e ≡ false) rest
     → IsLegal priority o (before ++ entry c b (Waiting n) ∷ (rest ++ entry c (Poll n) r ∷ [])) → (r ≡ Waiting n) ⊎ AnswersBegin b r
-polls_in_kind priority o before rest c n b r room so last legal =
-    let l = last_is priority o before rest c n b (Poll n) r room so last legal in
+polls_in_kind priority o before rest c n b r so last legal =
+    let l = last_is priority o before rest c n b (Poll n) r so last legal in
     let is : ◌≡◌ {A = Outcome} (poll l.before c n) (r, l.after) = the_outcome (poll l.before c n) (r, l.after) l.answer in
     subst (λ (q : ReplyMark). (q ≡ Waiting n) ⊎ AnswersBegin b q) (ap (λ (p : Outcome). p.0) is) (own_poll b c n l.before l.stands)
 
-pub cancels_in_kind : (priority : Mark → ℕ) (o : Object) (before rest : List EntryMark) (c n : ℕ) (b : CallMark) (r : ReplyMark) → IsChannelObject o → is_begin b ≡ true → AllByRecursion (λ e. ends_wait c n e ≡ false) rest
+pub cancels_in_kind : (priority : Mark → ℕ) (o : Object) (before rest : List EntryMark) (c n : ℕ) (b : CallMark) (r : ReplyMark) → is_begin b ≡ true → AllByRecursion (λ e. ends_wait c n e ≡ false) rest
     → IsLegal priority o (before ++ entry c b (Waiting n) ∷ (rest ++ entry c (Cancel n) r ∷ [])) → CancelsBegin b r ⊎ AnswersBegin b r
-cancels_in_kind priority o before rest c n b r room so last legal =
-    let l = last_is priority o before rest c n b (Cancel n) r room so last legal in
+cancels_in_kind priority o before rest c n b r so last legal =
+    let l = last_is priority o before rest c n b (Cancel n) r so last legal in
     let is : ◌≡◌ {A = Outcome} (cancel l.before c n) (r, l.after) = the_outcome (cancel l.before c n) (r, l.after) l.answer in
     subst (λ (q : ReplyMark). CancelsBegin b q ⊎ AnswersBegin b q) (ap (λ (p : Outcome). p.0) is) (own_cancel b c n l.before l.stands)

@@ -13,7 +13,7 @@ use Rattle.channel_laws.specs.Twin.{twin, is_open, is_of_wait, Follows, IsCancel
 use Rattle.ho_model.specs.Entries.{entry}
 use Rattle.ho_model.specs.Histories.{IsLegal}
 use Rattle.channel_laws.specs.Kinds.{AnswersBegin, CancelsBegin, is_begin, ends_wait}
-use Rattle.channel_laws.specs.Reached.{IsChannelObject, IsReached, Reaches, kind_in}
+use Rattle.channel_laws.specs.Reached.{IsChannel, IsReached, Reaches, kind_in}
 
 -- a cancel of an unanswered wait says so, and leaves exactly the channel without the wait
 abbrev pub CancelLeavesTwin : Type 0
@@ -47,18 +47,22 @@ CompletedHasNoWaits =
     (priority : Mark → ℕ) (o : Object) (history : List EntryMark) (s : Channel) → Reaches priority o history s →
     is_completed s ≡ true → AllByRecursion (λ w. is_waiting w.standing ≡ false) s.waits
 
+-- an object that accepts a begin is a channel
+abbrev pub BeginsAreOfChannels : Type 0
+BeginsAreOfChannels = (priority : Mark → ℕ) (o : Object) (before : List EntryMark) (e : EntryMark) → is_begin e.call ≡ true → IsLegal priority o (before ++ e ∷ []) → IsChannel o
+
 -- A wait that a begin left answers in the kind of that begin: until it is forgotten, a poll of it says
 -- that it stands, or answers so
 abbrev pub PollsAnswerInKind : Type 0
 PollsAnswerInKind =
-    (priority : Mark → ℕ) (o : Object) (before rest : List EntryMark) (c n : ℕ) (b : CallMark) (r : ReplyMark) → IsChannelObject o → is_begin b ≡ true →
+    (priority : Mark → ℕ) (o : Object) (before rest : List EntryMark) (c n : ℕ) (b : CallMark) (r : ReplyMark) → is_begin b ≡ true →
     AllByRecursion (λ e. ends_wait c n e ≡ false) rest →
     IsLegal priority o (before ++ entry c b (Waiting n) ∷ (rest ++ entry c (Poll n) r ∷ [])) → (r ≡ Waiting n) ⊎ AnswersBegin b r
 
 -- and a cancel of it says that it is given up, with a write's own item, or answers so
 abbrev pub CancelsAnswerInKind : Type 0
 CancelsAnswerInKind =
-    (priority : Mark → ℕ) (o : Object) (before rest : List EntryMark) (c n : ℕ) (b : CallMark) (r : ReplyMark) → IsChannelObject o → is_begin b ≡ true →
+    (priority : Mark → ℕ) (o : Object) (before rest : List EntryMark) (c n : ℕ) (b : CallMark) (r : ReplyMark) → is_begin b ≡ true →
     AllByRecursion (λ e. ends_wait c n e ≡ false) rest →
     IsLegal priority o (before ++ entry c b (Waiting n) ∷ (rest ++ entry c (Cancel n) r ∷ [])) → CancelsBegin b r ⊎ AnswersBegin b r
 

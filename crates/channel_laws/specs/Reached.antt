@@ -29,7 +29,14 @@ pub record IsReached (kind : Kind) (s : Channel) : Type 0 where
   pub named : IsNamed s
   pub settled : AllByRecursion (λ w. IsSettled kind (length s.buffer) s.completion w.standing) s.waits
 
--- the channel objects, and what kind of channel each is
+-- the channel objects
+abbrev pub IsChannel : Object → Type 0
+IsChannel object.Unbounded = Unit {0}
+IsChannel (object.Bounded capacity mode) = Unit {0}
+IsChannel object.Prioritized = Unit {0}
+IsChannel _ = ⊥
+
+-- those of them that have room for an item, and what kind of channel each is
 abbrev pub IsChannelObject : Object → Type 0
 IsChannelObject object.Unbounded = Unit {0}
 IsChannelObject (object.Bounded capacity mode) = 0 < capacity

@@ -14,7 +14,7 @@
 //! are proved of the definitions as they stand.
 #![tactic(auto)]
 
-ghost use Rattle.channel_laws.specs.Laws.{CancelLeavesTwin, OthersFollow, WaitsStandWhereTheyMust, CompletedExactly, CompletedHasNoWaits, PollsAnswerInKind, CancelsAnswerInKind, ReadsTakeFirstLeast};
+ghost use Rattle.channel_laws.specs.Laws.{CancelLeavesTwin, OthersFollow, WaitsStandWhereTheyMust, CompletedExactly, CompletedHasNoWaits, BeginsAreOfChannels, PollsAnswerInKind, CancelsAnswerInKind, ReadsTakeFirstLeast};
 
 /// A cancelled wait has taken and left nothing: a cancel of an unanswered wait leaves exactly the
 /// channel without it, and until then every call either answered it, or answered and changed the
@@ -36,6 +36,11 @@ pub fn waits_stand_only_where_they_must()
 pub fn completed_is_the_end()
     ensures exactly { CompletedExactly }
     ensures no_waits { CompletedHasNoWaits }
+{}
+
+/// Only a channel accepts a begin: a legal history that ends in one is a channel's.
+pub fn only_channels_have_waits()
+    ensures { BeginsAreOfChannels }
 {}
 
 /// A wait is answered in the kind of the begin that left it, and by nothing else: a read with an item

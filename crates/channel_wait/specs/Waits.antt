@@ -10,7 +10,7 @@ use Rattle.turn_lock.specs.Passes.{PassView}
 use Rattle.channel_wait.specs.Standing.{Awaits}
 use Rattle.channel_wait.specs.declared.ends.Begun.{Begun}
 use Rattle.channel_wait.specs.declared.ends.Begun.TheVariants as begun
-use Rattle.turn_lock.specs.Calls.{AddsOne, AddsNoEntry, CountsOne, MeetsObstacle, HasNoCallLeft}
+use Rattle.turn_lock.specs.Calls.{IsSamePass, AddsOne, AddsNoEntry, CountsOne, MeetsObstacle, HasNoCallLeft}
 
 -- Why a poll has no answer. Its entry says that the wait stands; or it made no entry, since it met
 -- tickets that were out, or its caller has no call left.
@@ -24,6 +24,10 @@ pub record IsTaken (priority : Mark → ℕ) (p q : PassView) (number : ℕ) (r 
   pub polled : AddsOne priority p (entry p.caller (Poll number) r) q
   pub counted : CountsOne p q
   pub left : ¬ HasNoCallLeft p
+
+-- a begin made one entry, and answered so: what p had seen goes on to that of some q
+abbrev pub AnswersAtOnce : (Mark → ℕ) → CallMark → PassView → ReplyMark → Type 0
+AnswersAtOnce priority begin p r = (q : PassView) × IsSamePass p q × AddsOne priority p (entry p.caller begin r) q
 
 -- a begin made one entry, with its end; or with the number of the wait that it left
 abbrev pub Begins : {E : Type 0} → (Mark → ℕ) → CallMark → (E → ReplyMark) → PassView → PassView → Begun ℕ E → Type 0

@@ -1,6 +1,6 @@
 //! Reads and writes that wait, polled as futures or waited out, and given up by a token.
 //!
-//! [`ReadWait`] and [`WriteWait`] are futures over a reader or a writer that they borrow: `begin` makes
+//! [`ReadWait`], [`WriteWait`] and [`LookWait`] are futures over a reader or a writer that they borrow: `begin` makes
 //! one begin entry, a poll tries one `Poll`, `cancel` makes one `Cancel`. [`read`] and [`write`] begin,
 //! and poll until there is an answer, with one look at a [`CancelToken`](cancel_flag::CancelToken)
 //! after each own entry that says that the wait stands.
@@ -18,6 +18,7 @@
 mod begins;
 mod calls;
 mod ends;
+mod look_wait;
 mod polls;
 mod read_wait;
 mod turns;
@@ -25,6 +26,7 @@ mod write_wait;
 
 pub use calls::{read, write};
 pub use ends::{Begun, LookEnd, ReadEnd, WriteEnd};
+pub use look_wait::LookWait;
 pub use read_wait::ReadWait;
 pub use write_wait::WriteWait;
 

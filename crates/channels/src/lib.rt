@@ -3,7 +3,8 @@
 //! A [`Channel`] is unbounded, bounded in one of four modes, or prioritized. A caller makes any call
 //! by its pass, or hands the pass to a [`Writer`] or a [`Reader`], which have the calls of .NET's
 //! `ChannelWriter<T>` and `ChannelReader<T>` that need no wait. Any call can also be tried once, without
-//! waiting for the turn, and [`Side`] is what a writer and a reader have in common.
+//! waiting for the turn, and [`Side`] is what a writer and a reader have in common. Both are an
+//! [`Access`], which they lend to what waits for either.
 //!
 //! It stands on `turn_lock` for the sharing, and on `channel_core` and `priority_core` for the two
 //! machines under it. It promises upward that each call meets the turn lock's clauses with the
@@ -11,6 +12,7 @@
 //! with that call and its reply, and all of it is legal for the channel.
 #![tactic(auto)]
 
+mod access;
 mod channel;
 mod machine;
 mod reader;
@@ -18,6 +20,7 @@ mod sides;
 mod tries;
 mod writer;
 
+pub use access::Access;
 pub use channel::{Channel, MakeRefused};
 pub use machine::ChannelMachine;
 pub use reader::{ReadReply, Reader};

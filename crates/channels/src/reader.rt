@@ -1,6 +1,7 @@
 // A caller that reads.
 ghost use Rattle.std.specs.Prelude.{◌≡◌};
 
+use crate::access::Access;
 use crate::channel::Channel;
 use channel_core::{ChannelCall, ChannelReply};
 use ho_base::{Fault, Item};
@@ -22,19 +23,15 @@ pub enum ReadReply<T> {
 /// pass.
 #[derive(Drop)]
 pub struct Reader<'c, T: Item> {
-    pub(crate) channel: &'c Channel<T>,
-    pub(crate) pass: Pass,
+    pub(crate) access: Access<'c, T>,
 }
 
 impl<'c, T: Item> Model for Reader<'c, T> {
-    ghost use Rattle.std.specs.Prelude.{◌≡◌};
     ghost use Rattle.turn_lock.specs.Passes.{PassView};
 
     ghost Value = { PassView };
 
-    ghost view = { λ r. r.pass };
-
-    ghost invariant = { λ r. r.pass.table ≡ r.channel.now };
+    ghost view = { λ r. r.access };
 }
 
 impl<'c, T: Item> Reader<'c, T> {
@@ -49,14 +46,24 @@ impl<'c, T: Item> Reader<'c, T> {
         requires { pass.table ≡ channel.now }
         ensures { result ≡ pass }
     {
-        Reader { channel, pass }
+        Reader {
+            access: Access::new(channel, pass),
+        }
     }
 
     pub fn into_pass(self) -> Pass
         ensures { result ≡ self.entry }
     {
-        let Reader { channel: _, pass } = self;
-        pass
+        let Reader { access } = self;
+        access.into_pass()
+    }
+
+    /// Lends its access, to a layer that keeps the loan for as long as it keeps the reader: contracts do
+    /// not say what the reader is after that.
+    pub fn access(&mut self) -> &mut Access<'c, T>
+        ensures { result.now ≡ self.old }
+    {
+        &mut self.access
     }
 
     /// Reads an item, if there is one (`TryRead`).
@@ -66,7 +73,7 @@ impl<'c, T: Item> Reader<'c, T> {
         ensures entry { AddsOne T.priority_of self.old
             (entry self.old.caller Read (read_mark T.mark result)) self.new }
     {
-        match self.channel.call(rt, &mut self.pass, ChannelCall::Read) {
+        match self.access.call(rt, ChannelCall::Read) {
             Ok((ChannelReply::Item(item), _)) => ReadReply::Item(item),
             Ok((ChannelReply::Empty, _)) => ReadReply::Empty,
             Ok((ChannelReply::Closed(fault), _)) => ReadReply::Closed(fault),
@@ -81,7 +88,7 @@ impl<'c, T: Item> Reader<'c, T> {
         ensures entry { AddsOne T.priority_of self.old
             (entry self.old.caller Peek (peek_mark result)) self.new }
     {
-        match self.channel.call(rt, &mut self.pass, ChannelCall::Peek) {
+        match self.access.call(rt, ChannelCall::Peek) {
             Ok((ChannelReply::Shown(number), _)) => Some(number),
             Ok((ChannelReply::Empty, _)) => None,
             _ => unreachable!(),
@@ -95,7 +102,7 @@ impl<'c, T: Item> Reader<'c, T> {
         ensures entry { AddsOne T.priority_of self.old
             (entry self.old.caller Count (Counted result)) self.new }
     {
-        match self.channel.call(rt, &mut self.pass, ChannelCall::Count) {
+        match self.access.call(rt, ChannelCall::Count) {
             Ok((ChannelReply::Count(count), _)) => count,
             _ => unreachable!(),
         }
@@ -108,10 +115,7 @@ impl<'c, T: Item> Reader<'c, T> {
         ensures entry { AddsOne T.priority_of self.old
             (entry self.old.caller Completed (Flag result)) self.new }
     {
-        match self
-            .channel
-            .call(rt, &mut self.pass, ChannelCall::Completed)
-        {
+        match self.access.call(rt, ChannelCall::Completed) {
             Ok((ChannelReply::Flag(flag), _)) => flag,
             _ => unreachable!(),
         }

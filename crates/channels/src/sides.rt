@@ -4,6 +4,7 @@ ghost use Rattle.turn_lock.specs.Passes.{PassView};
 ghost use Rattle.turn_lock.specs.Calls.{IsSamePass};
 ghost use Rattle.channels.specs.Calls.{Calls, Tries};
 
+use crate::access::Access;
 use crate::reader::Reader;
 use crate::tries::ChannelTry;
 use crate::writer::Writer;
@@ -36,8 +37,8 @@ pub trait Side<T: Marked>: Drop {
         ensures tried { Tries T.mark T.priority_of (pass self.old) (pass self.new) call result };
 }
 
-impl<'c, T: Item> Side<T> for Writer<'c, T> {
-    ghost pass = { λ w. w };
+impl<'c, T: Item> Side<T> for Access<'c, T> {
+    ghost pass = { λ a. a };
 
     fn side_call<R: Wait>(
         &mut self,
@@ -65,6 +66,28 @@ impl<'c, T: Item> Side<T> for Writer<'c, T> {
     }
 }
 
+impl<'c, T: Item> Side<T> for Writer<'c, T> {
+    ghost pass = { λ w. w };
+
+    fn side_call<R: Wait>(
+        &mut self,
+        rt: &R,
+        call: ChannelCall<T>,
+    ) -> Result<(ChannelReply<T>, Receipt), Unpaid<ChannelCall<T>>>
+        ensures same { IsSamePass self.old self.new }
+        ensures called { Calls T.mark T.priority_of self.old self.new call result }
+    {
+        self.access.side_call(rt, call)
+    }
+
+    fn try_side_call(&mut self, call: ChannelCall<T>) -> ChannelTry<T>
+        ensures same { IsSamePass self.old self.new }
+        ensures tried { Tries T.mark T.priority_of self.old self.new call result }
+    {
+        self.access.try_side_call(call)
+    }
+}
+
 impl<'c, T: Item> Side<T> for Reader<'c, T> {
     ghost pass = { λ r. r };
 
@@ -76,21 +99,14 @@ impl<'c, T: Item> Side<T> for Reader<'c, T> {
         ensures same { IsSamePass self.old self.new }
         ensures called { Calls T.mark T.priority_of self.old self.new call result }
     {
-        let channel = self.channel;
-        channel.shared.call(rt, &mut self.pass, call)
+        self.access.side_call(rt, call)
     }
 
     fn try_side_call(&mut self, call: ChannelCall<T>) -> ChannelTry<T>
         ensures same { IsSamePass self.old self.new }
         ensures tried { Tries T.mark T.priority_of self.old self.new call result }
     {
-        let channel = self.channel;
-        match channel.shared.try_call(&mut self.pass, call) {
-            Attempt::Answer(reply, receipt) => ChannelTry::Answer(reply, receipt),
-            Attempt::Busy(back) => ChannelTry::Busy(back),
-            Attempt::Spent(back) => ChannelTry::Spent(back),
-            Attempt::NoMemory(back) => ChannelTry::NoMemory(back),
-        }
+        self.access.try_side_call(call)
     }
 }
 

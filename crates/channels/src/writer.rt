@@ -1,6 +1,7 @@
 // A caller that writes.
 ghost use Rattle.std.specs.Prelude.{◌≡◌, true, IfOk, IfErr, OnErr};
 
+use crate::access::Access;
 use crate::channel::Channel;
 use channel_core::{ChannelCall, ChannelReply};
 use ho_base::{Fault, Item, Unpaid};
@@ -25,19 +26,15 @@ pub enum WriteReply<T> {
 /// pass.
 #[derive(Drop)]
 pub struct Writer<'c, T: Item> {
-    pub(crate) channel: &'c Channel<T>,
-    pub(crate) pass: Pass,
+    pub(crate) access: Access<'c, T>,
 }
 
 impl<'c, T: Item> Model for Writer<'c, T> {
-    ghost use Rattle.std.specs.Prelude.{◌≡◌};
     ghost use Rattle.turn_lock.specs.Passes.{PassView};
 
     ghost Value = { PassView };
 
-    ghost view = { λ w. w.pass };
-
-    ghost invariant = { λ w. w.pass.table ≡ w.channel.now };
+    ghost view = { λ w. w.access };
 }
 
 impl<'c, T: Item> Writer<'c, T> {
@@ -54,14 +51,24 @@ impl<'c, T: Item> Writer<'c, T> {
         requires { pass.table ≡ channel.now }
         ensures { result ≡ pass }
     {
-        Writer { channel, pass }
+        Writer {
+            access: Access::new(channel, pass),
+        }
     }
 
     pub fn into_pass(self) -> Pass
         ensures { result ≡ self.entry }
     {
-        let Writer { channel: _, pass } = self;
-        pass
+        let Writer { access } = self;
+        access.into_pass()
+    }
+
+    /// Lends its access, to a layer that keeps the loan for as long as it keeps the writer: contracts do
+    /// not say what the writer is after that.
+    pub fn access(&mut self) -> &mut Access<'c, T>
+        ensures { result.now ≡ self.old }
+    {
+        &mut self.access
     }
 
     /// Writes an item, if that needs no wait (`TryWrite`). For want of memory, which only a channel
@@ -77,10 +84,7 @@ impl<'c, T: Item> Writer<'c, T> {
             × (self.new.met ≡ self.old.met)) }
         ensures wanted { OnErr result (may_want self.old.object (Write (T.mark item)) ≡ true) }
     {
-        match self
-            .channel
-            .call(rt, &mut self.pass, ChannelCall::Write(item))
-        {
+        match self.access.call(rt, ChannelCall::Write(item)) {
             Ok((ChannelReply::Done, _)) => Ok(WriteReply::Done),
             Ok((ChannelReply::Dropped(dropped), _)) => Ok(WriteReply::Dropped(dropped)),
             Ok((ChannelReply::Full(back), _)) => Ok(WriteReply::Full(back)),
@@ -102,10 +106,7 @@ impl<'c, T: Item> Writer<'c, T> {
         ensures entry { AddsOne T.priority_of self.old
             (entry self.old.caller (CompleteWith (fault_number fault)) (Flag result)) self.new }
     {
-        match self
-            .channel
-            .call(rt, &mut self.pass, ChannelCall::Complete(fault))
-        {
+        match self.access.call(rt, ChannelCall::Complete(fault)) {
             Ok((ChannelReply::Flag(first), _)) => first,
             _ => unreachable!(),
         }
