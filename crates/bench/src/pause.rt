@@ -1,4 +1,4 @@
-// How a thread waits that found no item, or no room.
+// How a thread waits for others.
 use std::time::{Clock, Duration};
 use std::{hint, thread};
 
