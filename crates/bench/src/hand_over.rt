@@ -3,8 +3,8 @@ ghost use Rattle.std.specs.Prelude.{◌≡◌, ◌<◌, ◌≤◌, All, IfOk};
 
 use crate::Trouble;
 use crate::line::{StartLine, nanoseconds_since};
+use crate::pause::Pause;
 use channels::{Channel, ReadReply, Reader, WriteReply, Writer};
-use crossbeam_utils::Backoff;
 use ho_base::NoMemory;
 use ho_model::Mode;
 use std::alloc::Global;
@@ -33,12 +33,12 @@ struct Job {
 /// When a thread started, and the sum of what it read. None where it met what it must not.
 type Outcome = (Option<Instant>, Option<u64>);
 
-fn write_one<R: Wait>(rt: &R, writer: &mut Writer<'_, u64>, number: u64) -> bool {
-    let backoff = Backoff::new();
+fn write_one<R: Wait + Clock>(rt: &R, writer: &mut Writer<'_, u64>, number: u64) -> bool {
+    let mut pause = Pause::new();
     for _ in rt.forever() {
         match writer.try_write(rt, number) {
             Ok(WriteReply::Done) => return true,
-            Ok(WriteReply::Full(_)) => backoff.snooze(),
+            Ok(WriteReply::Full(_)) => pause.take(rt),
             _ => return false,
         }
     }
@@ -46,7 +46,7 @@ fn write_one<R: Wait>(rt: &R, writer: &mut Writer<'_, u64>, number: u64) -> bool
 }
 
 /// Writes the numbers, and completes the channel as the last writer.
-fn write_all<R: Wait>(
+fn write_all<R: Wait + Clock>(
     rt: &R,
     writer: &mut Writer<'_, u64>,
     writers: &AtomicU64,
@@ -65,16 +65,16 @@ fn write_all<R: Wait>(
 }
 
 /// Reads until the channel is closed, and sums what it read.
-fn read_all<R: Wait>(rt: &R, reader: &mut Reader<'_, u64>) -> Option<u64> {
+fn read_all<R: Wait + Clock>(rt: &R, reader: &mut Reader<'_, u64>) -> Option<u64> {
     let mut sum: u64 = 0;
-    let backoff = Backoff::new();
+    let mut pause = Pause::new();
     for _ in rt.forever() {
         match reader.try_read(rt) {
             ReadReply::Item(number) => {
                 sum = sum.wrapping_add(number);
-                backoff.reset();
+                pause.reset();
             }
-            ReadReply::Empty => backoff.snooze(),
+            ReadReply::Empty => pause.take(rt),
             ReadReply::Closed(_) => return Some(sum),
         }
     }

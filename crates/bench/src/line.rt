@@ -1,10 +1,10 @@
 // Where threads wait for each other before they are timed.
-use crossbeam_utils::Backoff;
+use crate::pause::Pause;
 use std::sync::atomic::{AtomicU64, Ordering};
 use std::time::{Clock, Instant};
 
 /// How often a thread looks at the line at most, should others never come.
-const MOST_LOOKS: u32 = 10_000_000;
+const MOST_LOOKS: u32 = 1_000_000;
 
 /// A start line for so many threads.
 #[derive(Drop)]
@@ -24,12 +24,12 @@ impl StartLine {
     /// Returns once all threads have come, with the time then, if the clock tells it.
     pub fn start<R: Clock>(&self, rt: &R) -> Option<Instant> {
         self.came.fetch_add(1, Ordering::SeqCst);
-        let backoff = Backoff::new();
+        let mut pause = Pause::new();
         for _ in 0..MOST_LOOKS {
             if self.came.load(Ordering::SeqCst) >= self.threads {
                 break;
             }
-            backoff.snooze();
+            pause.take(rt);
         }
         Instant::now(rt).ok()
     }

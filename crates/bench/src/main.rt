@@ -9,6 +9,7 @@ ghost use Rattle.std.specs.Prelude.{◌<◌, ◌≤◌, IfSome};
 
 mod hand_over;
 mod line;
+mod pause;
 mod solo;
 
 use ho_base::NoMemory;

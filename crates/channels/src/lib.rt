@@ -9,7 +9,8 @@
 //! It stands on `turn_lock` for the sharing, and on `channel_core` and `priority_core` for the two
 //! machines under it. It promises upward that each call meets the turn lock's clauses with the
 //! channel call of its name: what the pass has seen goes on with entries of other callers and then
-//! with that call and its reply, and all of it is legal for the channel.
+//! with that call and its reply, and all of it is legal for the channel. Each maker may answer that
+//! there is no memory, since no clause can say that there is some; tests show that it makes a channel.
 #![tactic(auto)]
 
 mod access;

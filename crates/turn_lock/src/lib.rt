@@ -10,11 +10,13 @@
 //! then its own entry; that every other answer adds entries of others alone; that what is seen is
 //! always legal for the object; and what each pass holds after a split or a join. The words of these
 //! promises are in `specs/Calls.antt`. The rule of the shared words is in `specs/Rule.antt`, and
-//! `docs/TURN_LOCK.md` tells it with the reason of each part.
+//! `docs/TURN_LOCK.md` tells it with the reason of each part. How long a call pauses between its
+//! tries, and what it looks at meanwhile, promises nothing: other pauses and looks only cost time.
 #![tactic(auto)]
 
 mod attempt;
 mod pass;
+mod pause;
 mod plays;
 mod shared;
 mod steps;

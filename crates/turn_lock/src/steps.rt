@@ -17,6 +17,8 @@ use crate::plays::{
 use crate::view::View;
 use ho_model::Stepper;
 use std::snapshot::Snapshot;
+use std::sync::Wait;
+use std::time::Duration;
 
 pub type Board<M> = atomic_table::Shared<M, View, (Snapshot<M>, u64), Turns<M>>;
 
@@ -34,11 +36,29 @@ const SERVING: usize = 16;
 /// The length of the history.
 const COUNT: usize = 17;
 
+/// How many microseconds a caller sleeps that waits for a turn which does not move on.
+const MOMENT: u64 = 50;
+
 /// Whether the turn seems free. It says nothing for sure, and spares others a write to their words.
 pub fn seems_free<M: Stepper>(board: &Board<M>) -> bool
     requires { HasWords board.now.table_id }
 {
     board.peek(TICKET) == board.peek(SERVING)
+}
+
+/// The number that seems to be served. It says nothing for sure.
+pub fn glance<M: Stepper>(board: &Board<M>) -> u64
+    requires { HasWords board.now.table_id }
+{
+    board.peek(SERVING)
+}
+
+/// Sleeps for a moment, if this number is still served. Nobody wakes it.
+pub fn doze<M: Stepper, R: Wait>(rt: &R, board: &Board<M>, serving: u64)
+    requires { HasWords board.now.table_id }
+{
+    let moment = Duration::from_micros(MOMENT);
+    board.park_timeout(rt, SERVING, (serving & 0xffff_ffff) as u32, moment);
 }
 
 /// Loads the number that is served.

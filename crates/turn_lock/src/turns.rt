@@ -14,21 +14,21 @@ ghost use Rattle.turn_lock.specs.Turns.{Made, GaveUp, Missed};
 ghost use Rattle.turn_lock.specs.Attempts.{IfAnswer, IfBusy, IfSpent, IfNoMemory};
 
 use crate::attempt::Attempt;
+use crate::pause::Pause;
 use crate::steps::{
-    Board, Seat, draw, enter, grab_ticket, leave, look, reach, seems_free, try_ticket,
+    Board, Seat, doze, draw, enter, glance, grab_ticket, leave, look, reach, seems_free, try_ticket,
 };
-use crossbeam_utils::Backoff;
 use ho_base::{Receipt, Unpaid};
 use ho_model::Stepper;
 use std::marker::Brand;
 use std::snapshot::Snapshot;
 use std::sync::Wait;
 
-/// How many exchanges a call loses before it draws a ticket.
+/// How many exchanges a call loses after its first before it draws a ticket.
 ///
 /// With more callers than cores the next ticket is often that of a caller that does not run, and all
-/// others wait for it. Who tries waits for nobody: it looks until the turn seems free, and only then
-/// tries the exchange.
+/// others wait for it. Who tries waits for nobody: after a lost exchange it pauses until the turn
+/// seems free, and only then tries again.
 const TRIES: u32 = 64;
 
 /// Lets the machine take a call under the turn, makes the entry and gives the turn back.
@@ -109,7 +109,7 @@ pub fn try_turn<M: Stepper>(
     }
 }
 
-/// Gets the turn: by tries with a back-off between, and at last by a ticket of its own.
+/// Gets the turn: at once, or in competition with others.
 fn gain<M: Stepper, R: Wait>(rt: &R, board: &Board<M>, seat: &mut Seat<M>) -> u64
     requires table { IsFor board.now.table_id seat.old }
     requires idle { seat.old.me.0.turn ≡ Idle }
@@ -119,9 +119,28 @@ fn gain<M: Stepper, R: Wait>(rt: &R, board: &Board<M>, seat: &mut Seat<M>) -> u6
     ensures now { Got M.priority (StandsFor M.priority M.object M.callers M.state M.steps M.tally)
         (counted seat.old.me.0) seat.old.me.1 result seat.new.me }
 {
-    let backoff = Backoff::new();
+    let serving = look(board, seat);
+    if grab_ticket(board, seat, serving) == serving {
+        return serving;
+    }
+    compete(rt, board, seat)
+}
+
+/// Gets the turn by tries with pauses before them, and at last by a ticket of its own.
+#[cold]
+#[inline(never)]
+fn compete<M: Stepper, R: Wait>(rt: &R, board: &Board<M>, seat: &mut Seat<M>) -> u64
+    requires table { IsFor board.now.table_id seat.old }
+    requires idle { seat.old.me.0.turn ≡ Idle }
+    requires active { HasNumber seat.old.me.0.held seat.old.me.0.caller }
+    requires spare { slice_index seat.old.me.0.made seat.old.me.0.caller < 2 ^ 48 }
+    ensures same { IsSame seat.old seat.new }
+    ensures now { Got M.priority (StandsFor M.priority M.object M.callers M.state M.steps M.tally)
+        (counted seat.old.me.0) seat.old.me.1 result seat.new.me }
+{
+    let mut pause = Pause::new();
     for _ in 0..TRIES {
-        await_free(rt, board, &backoff);
+        await_free(rt, board, &mut pause);
         let serving = look(board, seat);
         if grab_ticket(board, seat, serving) == serving {
             return serving;
@@ -132,15 +151,15 @@ fn gain<M: Stepper, R: Wait>(rt: &R, board: &Board<M>, seat: &mut Seat<M>) -> u6
     turn
 }
 
-/// Waits until the turn seems free.
-fn await_free<M: Stepper, R: Wait>(rt: &R, board: &Board<M>, backoff: &Backoff)
+/// Rests until the turn seems free, at least once.
+fn await_free<M: Stepper, R: Wait>(rt: &R, board: &Board<M>, pause: &mut Pause)
     requires { HasWords board.now.table_id }
 {
     for _ in rt.forever() {
+        rest(rt, board, pause);
         if seems_free(board) {
             return;
         }
-        backoff.snooze();
     }
     unreachable!()
 }
@@ -154,14 +173,25 @@ fn wait_for<M: Stepper, R: Wait>(rt: &R, board: &Board<M>, seat: &mut Seat<M>, t
         (StandsFor M.priority M.object M.callers M.state M.steps M.tally) seat.old.me.0
         seat.old.me.1 turn seat.new.me }
 {
-    let backoff = Backoff::new();
+    let mut pause = Pause::new();
     for _ in rt.forever() {
         if reach(board, seat, turn) == turn {
             return;
         }
-        backoff.snooze();
+        rest(rt, board, &mut pause);
     }
     unreachable!()
+}
+
+/// Pauses, and sleeps after a longest pause in which the turn did not move on: who has it has then
+/// lost its core.
+fn rest<M: Stepper, R: Wait>(rt: &R, board: &Board<M>, pause: &mut Pause)
+    requires { HasWords board.now.table_id }
+{
+    let serving = glance(board);
+    if pause.spin() {
+        doze(rt, board, serving);
+    }
 }
 
 /// Gets the turn, and makes the call.

@@ -4,7 +4,7 @@ ghost use Rattle.std.specs.Prelude.{◌≡◌};
 use crate::{Channel, MakeRefused, ReadReply, Reader, WriteReply, Writer};
 use channel_core::{ChannelCall, ChannelReply, ChannelState};
 use ho_base::{Fault, Receipt};
-use ho_model::Mode;
+use ho_model::{Machine, Mode};
 use std::alloc::Global;
 use std::sync::Wait;
 use std::test::Fail;
@@ -40,17 +40,17 @@ fn two_callers_hand_over_one_item(rt: HostRuntime) -> Result<(), Fail> {
     assert!(rt; a.has_spare());
     let mut b = shared.split(&mut a);
     let written = shared.try_call(&mut b, ChannelCall::Write(4));
-    assert!(rt;
-        matches!(written, Attempt::Answer(ChannelReply::Done, receipt) if is_at(receipt, 0))
-    );
+    let Attempt::Answer(ChannelReply::Done, Receipt::Place { number: 0 }) = written else {
+        return Err(Fail::new("the write is not the first entry"));
+    };
     let read = shared.call(&rt, &mut a, ChannelCall::Read);
-    assert!(rt; matches!(read, Ok((ChannelReply::Item(4), receipt)) if is_at(receipt, 1)));
-    let left = shared.call(&rt, &mut b, ChannelCall::Count);
-    assert!(rt; matches!(left, Ok((ChannelReply::Count(0), receipt)) if is_at(receipt, 2)));
+    let Ok((ChannelReply::Item(4), Receipt::Place { number: 1 })) = read else {
+        return Err(Fail::new("the read does not take the item"));
+    };
     shared.join(&mut a, b);
     assert!(rt; a.is_whole());
-    // It stands for the history that `a` has seen, after which the buffer is empty.
-    let _state = shared.close(a);
+    let mut closed = shared.close(a);
+    assert!(rt; matches!(closed.step(0, ChannelCall::Count), Ok(ChannelReply::Count(0))));
     Ok(())
 }
 
