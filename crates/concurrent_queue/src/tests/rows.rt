@@ -1,7 +1,9 @@
 // The worked rows of a queue, as calls of `step`.
 ghost use Rattle.std.specs.Prelude.{◌≡◌, ◌+◌, ◌^◌, ◌<◌, ◌≤◌};
 
-use super::*;
+use crate::{
+    ConcurrentQueue, DequeueReply, EnqueueReply, QueueCall, QueueMachine, QueueRefused, QueueReply,
+};
 use ho_base::Receipt;
 use ho_model::Machine;
 use std::test::Fail;

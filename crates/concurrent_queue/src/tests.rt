@@ -1,0 +1,3 @@
+// Worked rows, and threads that share a queue.
+mod rows;
+mod threads;
