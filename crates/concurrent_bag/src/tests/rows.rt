@@ -1,7 +1,7 @@
 // The worked rows of a bag, as calls of `step`.
 ghost use Rattle.std.specs.Prelude.{◌≡◌, ◌+◌, ◌^◌, ◌<◌, ◌≤◌};
 
-use super::*;
+use crate::{BagAdd, BagCall, BagMachine, BagReply, BagTake, ConcurrentBag};
 use ho_base::Receipt;
 use ho_model::Machine;
 use std::test::Fail;
@@ -122,5 +122,20 @@ fn a_shared_bag_lets_a_caller_steal(rt: HostRuntime) -> Result<(), Fail> {
     assert!(rt;
         matches!(bag.snapshot(&rt, rt.alloc(), &mut a), Ok((items, at)) if items.as_slice().is_empty() && at == place(7))
     );
+    Ok(())
+}
+
+#[test]
+fn a_snapshot_shows_what_is_there(rt: HostRuntime) -> Result<(), Fail> {
+    let (bag, mut pass) = ConcurrentBag::new(rt.alloc(), 1)?;
+    assert!(rt; matches!(bag.add(&rt, &mut pass, 5u64), Ok((BagAdd::Done, _))));
+    assert!(rt;
+        matches!(bag.snapshot(&rt, rt.alloc(), &mut pass), Ok((items, at)) if items.as_slice() == [5].as_slice() && at == place(1))
+    );
+    assert_eq!(rt;
+        bag.take(&rt, &mut pass),
+        (BagTake::Item { from: 0, item: 5 }, place(2))
+    );
+    assert_eq!(rt; bag.take(&rt, &mut pass), (BagTake::Empty, place(3)));
     Ok(())
 }

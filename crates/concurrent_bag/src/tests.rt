@@ -1,0 +1,3 @@
+// Worked rows, and threads that share a bag.
+mod rows;
+mod threads;
