@@ -1,50 +1,50 @@
 -- Deeds of members by place.
-use Rattle.std.proofs.Common.{◌≡◌, ◌≢◌, ℕ, ◌<◌, ◌≤◌, ◌+◌, List, [], ◌∷◌, ◌++◌, get_or, set, length, cond, eqb, ltb, Bool, true, false, sym, refl, ap, ◌∙◌, subst, append_assoc, append-nil, arith, eq-eqb, ne_eqb, lt-ltb, inl, inr, ◌⊎◌}
+use Rattle.std.proofs.Common.{◌≡◌, ◌≢◌, ℕ, ◌<◌, ◌≤◌, ◌+◌, List, [], ◌∷◌, ◌++◌, get_or, set, length, cond, eqb, ltb, Bool, true, false, sym, refl, ap, ◌∙◌, subst, arith, eq-eqb, ne_eqb, lt-ltb, inl, inr, ◌⊎◌}
 use Rattle.std.proofs.lemmas.List.{get_or-set_same, get_or-set_other, get_or_default, length-set}
 use Rattle.std.proofs.lemmas.Bool.{cases_eq, cases_lt}
 use Rattle.std.proofs.lemmas.Bool.Decides.{nat_tests}
 use Rattle.std.proofs.Math.Nat.{eq-or-lt_of_le}
 use Rattle.ho_base.specs.Marks.{Mark}
 use Rattle.turn_lock.specs.Passes.{PassView}
-use Rattle.blocking_collection.specs.Deeds.{Deed, Did}
+use Rattle.blocking_collection.specs.Deeds.{Deed, Did, DidOrRests}
 use Rattle.blocking_collection.specs.Anys.{AllDid, round}
-use Rattle.blocking_collection.proofs.Doing.{did_none, did_on}
+use Rattle.blocking_collection.proofs.Doing.{rests, both_on}
 
 module _ (pr : Mark → ℕ) where
   -- passes that have done nothing
   pub all_none : (ps : List PassView) → AllDid pr ps (λ j. []) ps
-  all_none ps = record { size = refl; each = λ i p lt. did_none pr (get_or ps i p) }
+  all_none ps = record { size = refl; each = λ i p lt. rests pr (get_or ps i p) }
 
   -- the deeds by another name
   pub all_same : (old new : List PassView) (ds es : ℕ → List Deed) → ((j : ℕ) → j < length old → es j ≡ ds j) → AllDid pr old ds new → AllDid pr old es new
-  all_same old new ds es same a = record { size = a.size; each = λ i p lt. subst (λ (l : List Deed). Did pr (get_or old i p) l (get_or new i p)) (sym (same i lt)) (a.each i p lt) }
+  all_same old new ds es same a = record { size = a.size; each = λ i p lt. subst (λ (l : List Deed). DidOrRests pr (get_or old i p) l (get_or new i p)) (sym (same i lt)) (a.each i p lt) }
 
   -- one after another
   pub all_on : (a b c : List PassView) (ds es : ℕ → List Deed) → AllDid pr a ds b → AllDid pr b es c → AllDid pr a (λ j. ds j ++ es j) c
   all_on a b c ds es x y = record {
     size = y.size ∙ x.size;
-    each = λ i p lt. did_on pr (get_or a i p) (get_or b i p) (get_or c i p) (ds i) (es i) (x.each i p lt) (y.each i p (subst (λ (n : ℕ). i < n) (sym x.size) lt));
+    each = λ i p lt. both_on pr (get_or a i p) (get_or b i p) (get_or c i p) (ds i) (es i) (x.each i p lt) (y.each i p (subst (λ (n : ℕ). i < n) (sym x.size) lt));
   }
 
   -- the member at k did more
-  pub all_set : (old mid : List PassView) (k : ℕ) (d q : PassView) (more : List Deed) (ds es : ℕ → List Deed) → AllDid pr old ds mid → k < length old → Did pr (get_or mid k d) more q
+  pub all_set : (old mid : List PassView) (k : ℕ) (d q : PassView) (more : List Deed) (ds es : ℕ → List Deed) → AllDid pr old ds mid → k < length old → DidOrRests pr (get_or mid k d) more q
       → es k ≡ ds k ++ more → ((j : ℕ) → j ≢ k → es j ≡ ds j) → AllDid pr old es (set mid k q)
   all_set old mid k d q more ds es a lt did here there = record { size = length-set mid k q ∙ a.size; each = λ i p l. at i p l (cases_eq i k) }
     where
       lt_mid : k < length mid
       lt_mid = subst (λ (n : ℕ). k < n) (sym a.size) lt
 
-      at_k : (p : PassView) → Did pr (get_or old k p) (es k) (get_or (set mid k q) k p)
+      at_k : (p : PassView) → DidOrRests pr (get_or old k p) (es k) (get_or (set mid k q) k p)
       at_k p =
-          subst (λ (z : PassView). Did pr (get_or old k p) (es k) z) (sym (get_or-set_same mid k q p lt_mid))
-          (subst (λ (l : List Deed). Did pr (get_or old k p) l q) (sym here)
-          (did_on pr (get_or old k p) (get_or mid k p) q (ds k) more (a.each k p lt) (subst (λ (z : PassView). Did pr z more q) (get_or_default mid k d p lt_mid) did)))
+          subst (λ (z : PassView). DidOrRests pr (get_or old k p) (es k) z) (sym (get_or-set_same mid k q p lt_mid))
+          (subst (λ (l : List Deed). DidOrRests pr (get_or old k p) l q) (sym here)
+          (both_on pr (get_or old k p) (get_or mid k p) q (ds k) more (a.each k p lt) (subst (λ (z : PassView). DidOrRests pr z more q) (get_or_default mid k d p lt_mid) did)))
 
-      at : (i : ℕ) (p : PassView) → i < length old → (i ≡ k) ⊎ (i ≢ k) → Did pr (get_or old i p) (es i) (get_or (set mid k q) i p)
-      at i p l (inl is) = subst (λ (z : ℕ). Did pr (get_or old z p) (es z) (get_or (set mid k q) z p)) (sym is) (at_k p)
+      at : (i : ℕ) (p : PassView) → i < length old → (i ≡ k) ⊎ (i ≢ k) → DidOrRests pr (get_or old i p) (es i) (get_or (set mid k q) i p)
+      at i p l (inl is) = subst (λ (z : ℕ). DidOrRests pr (get_or old z p) (es z) (get_or (set mid k q) z p)) (sym is) (at_k p)
       at i p l (inr is) =
-          subst (λ (z : PassView). Did pr (get_or old i p) (es i) z) (sym (get_or-set_other mid k i q p is))
-          (subst (λ (l : List Deed). Did pr (get_or old i p) l (get_or mid i p)) (sym (there i is)) (a.each i p l))
+          subst (λ (z : PassView). DidOrRests pr (get_or old i p) (es i) z) (sym (get_or-set_other mid k i q p is))
+          (subst (λ (l : List Deed). DidOrRests pr (get_or old i p) l (get_or mid i p)) (sym (there i is)) (a.each i p l))
 
   -- rounds
   not_before : (j k : ℕ) → k ≤ j → ltb j k ≡ false
@@ -66,7 +66,7 @@ module _ (pr : Mark → ℕ) where
   -- what is done at k
   pub round_at : (old mid : List PassView) (k : ℕ) (d q : PassView) (each : ℕ → Deed) (last : List Deed) → AllDid pr old (round k each []) mid → k < length old → Did pr (get_or mid k d) last q → AllDid pr old (round k each last) (set mid k q)
   round_at old mid k d q each last a lt did =
-      all_set old mid k d q last (round k each []) (round k each last) a lt did
+      all_set old mid k d q last (round k each []) (round k each last) a lt (inr did)
       (round_here k each last ∙ ap (λ (l : List Deed). l ++ last) (sym (round_here k each [])))
       (λ j ne. round_else k j each last [] ne)
 

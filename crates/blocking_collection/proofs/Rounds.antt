@@ -1,5 +1,5 @@
 -- Rounds, one after another.
-use Rattle.std.proofs.Common.{◌≡◌, ℕ, zero, suc, ◌<◌, ◌+◌, List, [], ◌∷◌, ◌++◌, Bool, true, false, refl, sym, ap, ◌∙◌, subst, arith, length, All}
+use Rattle.std.proofs.Common.{◌≡◌, ℕ, suc, ◌<◌, ◌+◌, List, [], ◌∷◌, ◌++◌, Bool, true, false, refl, sym, ap, ◌∙◌, subst, arith, length, All, get_or}
 use Rattle.std.proofs.lemmas.List.Elements.{All-nil, All-cons, All-append}
 use Rattle.std.proofs.Math.ListN.{length-append}
 use Rattle.atomic_table.specs.Seated.{TableId}
@@ -9,6 +9,7 @@ use Rattle.blocking_collection.specs.Deeds.{Deed, times}
 use Rattle.blocking_collection.specs.Tries.{Tries, Stops}
 use Rattle.blocking_collection.specs.Anys.{AllOf, AllDid, no_item, no_items}
 use Rattle.blocking_collection.specs.AnyWaits.{SomeEmpty, Takes, StopsTaking}
+use Rattle.blocking_collection.proofs.Doing.{same_table}
 use Rattle.blocking_collection.proofs.Places.{all_on, all_same}
 
 times_more : (n : ℕ) (ds : List Deed) → times (n + 1) ds ≡ times n ds ++ ds
@@ -45,7 +46,7 @@ module _ (again : List Deed) (looks : ℕ) where
 pub still_of : (pr : Mark → ℕ) (collections : List TableId) (old new : List PassView) (ds : ℕ → List Deed) → AllOf collections old → AllDid pr old ds new → AllOf collections new
 still_of pr collections old new ds of did = record {
   size = did.size ∙ of.size;
-  each = λ i p c lt. (did.each i p (subst (λ (n : ℕ). i < n) (sym of.size) lt)).same.table ∙ of.each i p c lt;
+  each = λ i p c lt. same_table pr (get_or old i p) (get_or new i p) (ds i) (did.each i p (subst (λ (n : ℕ). i < n) (sym of.size) lt)) ∙ of.each i p c lt;
 }
 
 -- rounds of takes

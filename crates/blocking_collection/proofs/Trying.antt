@@ -1,10 +1,10 @@
 -- Tries over members, one after another.
-use Rattle.std.proofs.Common.{◌≡◌, ◌≢◌, ℕ, ◌<◌, ◌≤◌, ◌+◌, List, [], ◌∷◌, ◌++◌, get_or, set, length, cond, eqb, ltb, Bool, true, false, sym, refl, ap, ◌∙◌, subst, append_assoc, append-nil, arith, eq-eqb, ne_eqb, lt-ltb, inl, inr, ◌⊎◌, true≢false}
-use Rattle.std.specs.Prelude.{Option, Some, None, Result, Ok, Err}
-use Rattle.std.proofs.lemmas.Bool.{cases_eq, cases_lt}
+use Rattle.std.proofs.Common.{◌≡◌, ◌≢◌, ℕ, ◌<◌, ◌≤◌, ◌+◌, List, [], ◌∷◌, ◌++◌, get_or, set, length, cond, eqb, Bool, true, false, sym, refl, ap, ◌∙◌, subst, append-nil, arith, eq-eqb, ne_eqb, inl, inr, ◌⊎◌, true≢false}
+use Rattle.std.specs.Prelude.{Result, Ok, Err}
+use Rattle.std.proofs.lemmas.Bool.{cases_eq}
 use Rattle.ho_base.specs.Marks.{Mark}
 use Rattle.ho_base.specs.declared.memory.Unpaid.{Unpaid}
-use Rattle.ho_model.specs.declared.marks.ReplyMark.TheVariants.{Done, Full, Closed, Item, Empty, Ended}
+use Rattle.ho_model.specs.declared.marks.ReplyMark.TheVariants.{Done, Closed, Item}
 use Rattle.turn_lock.specs.Passes.{PassView}
 use Rattle.blocking_collection.specs.declared.any_add.AnyAdd.{AnyAdd}
 use Rattle.blocking_collection.specs.declared.any_add.AnyAdd.TheVariants as add
@@ -12,7 +12,7 @@ use Rattle.blocking_collection.specs.declared.any_take.AnyTake.{AnyTake}
 use Rattle.blocking_collection.specs.declared.any_take.AnyTake.TheVariants as take
 use Rattle.blocking_collection.specs.Deeds.{Deed, Did, added, taken, asked}
 use Rattle.blocking_collection.specs.Anys.{AllDid, round, still_open, full, no_item, Adds, TriedAdd, TriedTake}
-use Rattle.blocking_collection.proofs.Places.{all_on, all_same, round_on, round_at, round_start, round_end, same_round}
+use Rattle.blocking_collection.proofs.Places.{all_on, all_same, round_on, round_start, round_end, same_round}
 
 within : {k : ℕ} (old mid : List PassView) → length mid ≡ length old → k < length mid → k < length old
 within {k} old mid same lt = subst (λ (n : ℕ). k < n) same lt

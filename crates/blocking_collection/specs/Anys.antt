@@ -9,17 +9,17 @@ use Rattle.blocking_collection.specs.declared.any_add.AnyAdd.{AnyAdd}
 use Rattle.blocking_collection.specs.declared.any_add.AnyAdd.TheVariants as add
 use Rattle.blocking_collection.specs.declared.any_take.AnyTake.{AnyTake}
 use Rattle.blocking_collection.specs.declared.any_take.AnyTake.TheVariants as take
-use Rattle.blocking_collection.specs.Deeds.{Deed, Did, added, taken, asked}
+use Rattle.blocking_collection.specs.Deeds.{Deed, DidOrRests, added, taken, asked}
 
 -- the pass at each place is of the collection at that place
 pub record AllOf (collections : List TableId) (passes : List PassView) : Type 0 where
   pub size : length passes ≡ length collections
   pub each : (i : ℕ) (p : PassView) (c : TableId) → i < length collections → (slice_index_or passes i p).table ≡ slice_index_or collections i c
 
--- the pass at each place did this
+-- the pass at each place did this, or was not reached
 pub record AllDid (priority : Mark → ℕ) (old : List PassView) (deeds : ℕ → List Deed) (new : List PassView) : Type 0 where
   pub size : length new ≡ length old
-  pub each : (i : ℕ) (p : PassView) → i < length old → Did priority (slice_index_or old i p) (deeds i) (slice_index_or new i p)
+  pub each : (i : ℕ) (p : PassView) → i < length old → DidOrRests priority (slice_index_or old i p) (deeds i) (slice_index_or new i p)
 
 -- one deed at each place before k, then the last ones at k, and none behind
 abbrev pub round : ℕ → (ℕ → Deed) → List Deed → ℕ → List Deed

@@ -1,9 +1,7 @@
-use Rattle.std.proofs.Common.{rules, ◌≡◌, ◌+◌, ℕ, true, false, List, [], ◌∷◌, ◌++◌, subst, sym, get_or, ◌∙◌, refl, Ok, Err}
+use Rattle.std.proofs.Common.{rules, ◌≡◌, ◌+◌, true, false, [], ◌∙◌, refl, Ok, Err}
 use Rattle.blocking_collection.specs.declared.any_add.AnyAdd.TheVariants as add
-use Rattle.turn_lock.specs.Passes.{PassView}
-use Rattle.blocking_collection.specs.Deeds.{Deed, Did, deed}
 use Rattle.blocking_collection.specs.AnyWaits.{full_round}
-use Rattle.blocking_collection.specs.Anys.{AllDid, TriedAdd, still_open, full}
+use Rattle.blocking_collection.specs.Anys.{AllDid, TriedAdd}
 use Rattle.blocking_collection.proofs.Places.{all_on, all_none}
 use Rattle.blocking_collection.proofs.Trying.{after, told}
 use Rattle.blocking_collection.proofs.Rounds.{start, more, ends, stops, still_of}

@@ -1,4 +1,4 @@
-use Rattle.std.proofs.Common.{rules, ◌≡◌, ◌<◌, length, [], ◌∷◌, arith, get_or, refl, ◌∙◌}
+use Rattle.std.proofs.Common.{rules, ◌<◌, length, [], ◌∷◌, arith, get_or, refl, ◌∙◌}
 use Rattle.ho_model.specs.declared.marks.ReplyMark.TheVariants.{Done, Full, Closed}
 use Rattle.blocking_collection.specs.Deeds.{Did, added}
 use Rattle.blocking_collection.specs.Anys.{full}

@@ -1,8 +1,6 @@
-use Rattle.std.proofs.Common.{rules, ◌≡◌, ◌+◌, ℕ, true, false, List, [], ◌∷◌, ◌++◌, subst, sym, length, ◌∙◌, refl, Bool, ◌<◌}
+use Rattle.std.proofs.Common.{rules, ◌≡◌, ◌+◌, ℕ, true, false, [], ◌∷◌, subst, length, ◌∙◌, refl, ◌<◌}
 use Rattle.blocking_collection.specs.declared.any_take.AnyTake.TheVariants as take
-use Rattle.turn_lock.specs.Passes.{PassView}
-use Rattle.blocking_collection.specs.Deeds.{Deed}
-use Rattle.blocking_collection.specs.AnyWaits.{Takes, SomeEmpty}
+use Rattle.blocking_collection.specs.AnyWaits.{SomeEmpty}
 use Rattle.blocking_collection.specs.Anys.{AllDid, TriedTake, no_items, no_item}
 use Rattle.blocking_collection.proofs.Places.{all_none}
 use Rattle.blocking_collection.proofs.Trying.{take_after}

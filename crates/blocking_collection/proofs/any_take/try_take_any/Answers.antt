@@ -1,4 +1,4 @@
-use Rattle.std.proofs.Common.{rules, ◌<◌, ◌+◌, length, true, false, [], ◌∷◌, subst, sym, arith, get_or, set, Bool}
+use Rattle.std.proofs.Common.{rules, ◌<◌, ◌+◌, length, [], ◌∷◌, subst, sym, arith, get_or, set, Bool}
 use Rattle.ho_model.specs.declared.marks.ReplyMark.TheVariants.{Item}
 use Rattle.blocking_collection.specs.Deeds.{Did, taken}
 use Rattle.blocking_collection.specs.Anys.{no_item}
