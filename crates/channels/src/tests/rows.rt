@@ -50,7 +50,12 @@ fn two_callers_hand_over_one_item(rt: HostRuntime) -> Result<(), Fail> {
     shared.join(&mut a, b);
     assert!(rt; a.is_whole());
     let mut closed = shared.close(a);
-    assert!(rt; matches!(closed.step(0, ChannelCall::Count), Ok(ChannelReply::Count(0))));
+    assert!(rt;
+        matches!(
+            closed.step(0, ChannelCall::Count),
+            Ok(ChannelReply::Count(0))
+        )
+    );
     Ok(())
 }
 
