@@ -17,21 +17,21 @@ use turn_lock::Pass;
 
 /// What one thread does.
 #[derive(Drop)]
-enum Task {
+pub enum Task {
     /// Writes each number from the first up to, and without, the second.
     Write(u64, u64),
-    /// Reads to the end of the channel.
+    /// Reads to the end.
     Read,
 }
 
 #[derive(Drop)]
-struct Job {
-    pass: Pass,
-    task: Task,
+pub struct Job<P> {
+    pub pass: P,
+    pub task: Task,
 }
 
 /// When a thread started, and the sum of what it read. None where it met what it must not.
-type Outcome = (Option<Instant>, Option<u64>);
+pub type Outcome = (Option<Instant>, Option<u64>);
 
 fn write_one<R: Wait + Clock>(rt: &R, writer: &mut Writer<'_, u64>, number: u64) -> bool {
     let mut pause = Pause::new();
@@ -86,7 +86,7 @@ fn work<R: Wait + Clock>(
     channel: &Channel<u64>,
     line: &StartLine,
     writers: &AtomicU64,
-    job: Job,
+    job: Job<Pass>,
 ) -> Outcome
     requires { job.pass.table ≡ channel.now }
 {
@@ -102,12 +102,12 @@ fn work<R: Wait + Clock>(
 }
 
 /// A job for each task, each with a pass split off.
-fn jobs_of(
+pub fn jobs_of(
     alloc: Global,
     channel: &Channel<u64>,
     pass: &mut Pass,
     tasks: Vec<Task>,
-) -> Result<Vec<Job>, Trouble>
+) -> Result<Vec<Job<Pass>>, Trouble>
     requires { pass.old.table ≡ channel.now }
     ensures { IfOk result (λ jobs. All (λ job. job.pass.table ≡ channel.now) jobs.items) }
 {
@@ -123,7 +123,12 @@ fn jobs_of(
 }
 
 /// So many writers, each with its part of the numbers, and so many readers.
-fn tasks_of(alloc: Global, writers: u64, readers: u64, count: u64) -> Result<Vec<Task>, NoMemory>
+pub fn tasks_of(
+    alloc: Global,
+    writers: u64,
+    readers: u64,
+    count: u64,
+) -> Result<Vec<Task>, NoMemory>
     requires callers { (0 < writers) × (writers ≤ 31) }
     requires count { count ≤ 1000000000 }
 {
@@ -138,7 +143,7 @@ fn tasks_of(alloc: Global, writers: u64, readers: u64, count: u64) -> Result<Vec
 }
 
 /// The longest time since a start, where the numbers below `count` were read.
-fn longest<R: Clock>(rt: &R, outcomes: Vec<Outcome>, count: u64) -> Result<u64, Trouble> {
+pub fn longest<R: Clock>(rt: &R, outcomes: Vec<Outcome>, count: u64) -> Result<u64, Trouble> {
     let mut nanoseconds: u64 = 0;
     let mut total: u64 = 0;
     for (start, sum) in outcomes.as_slice() {
@@ -172,7 +177,7 @@ pub fn nanoseconds<R: Wait + Threads + Sync + Clock>(
     let jobs = jobs_of(alloc, &channel, &mut pass, tasks)?;
     let line = StartLine::new(writers + readers);
     let writing = AtomicU64::new(writers);
-    let each = |job: Job| -> Outcome
+    let each = |job: Job<Pass>| -> Outcome
         requires { job.pass.table ≡ channel }
     { work(rt, &channel, &line, &writing, job) };
     match thread::map_vec(rt, jobs, &each) {

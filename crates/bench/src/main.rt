@@ -1,16 +1,21 @@
 //! Measures the structures, as `bench WORKLOAD P C N`: P writers, C readers, N operations.
 //!
 //! The last line that it prints is the nanoseconds that one operation took. `docs/SPEED.md` has the
-//! numbers beside those of other libraries. The crate stands on `channels` and promises nothing
-//! upward. Without words it prints its usage.
+//! numbers beside those of other libraries. The crate stands on the structures that it measures and
+//! promises nothing upward. Without words it prints its usage.
 #![tactic(auto)]
 
 ghost use Rattle.std.specs.Prelude.{◌<◌, ◌≤◌, IfSome};
 
+mod bag;
+mod blocking;
 mod hand_over;
 mod line;
+mod pairs;
 mod pause;
 mod solo;
+mod steal;
+mod waits;
 
 use ho_base::NoMemory;
 use std::alloc::{AllocFailed, Global};
@@ -61,17 +66,24 @@ const FAILED_STATUS: u8 = 1;
 fn print_usage(rt: &impl Print) -> io::Result<()> {
     println!(rt; "usage: bench WORKLOAD P C N")?;
     println!(rt; "chan: P writers hand N numbers to C readers through a channel of capacity 1024")?;
+    println!(rt; "wait: the same by calls that wait, through a channel of capacity 16")?;
+    println!(rt; "block: the same through a blocking collection with bound 1024")?;
     println!(rt; "solo: one caller writes and reads N numbers, one after another")?;
-    println!(rt; "P and C are 1 to 31, N is 1 to 1000000000")?;
+    println!(rt; "pairs: P threads enqueue a number and dequeue one, N times in all")?;
+    println!(rt; "bag: P threads add four items to a bag and take four, N items in all")?;
+    println!(rt; "steal: one adder puts N items into a bag, and C takers steal them")?;
+    println!(rt;
+        "P and C are 1 to 31, N is 1 to 1000000000; C is 0 for pairs and bag, P is 1 for steal"
+    )?;
     Ok(())
 }
 
 /// A number of the command line, if it is in range.
-fn number_up_to(word: &str, most: u64) -> Option<u64>
-    ensures { IfSome result (λ number. (0 < number) × (number ≤ most)) }
+fn number_within(word: &str, least: u64, most: u64) -> Option<u64>
+    ensures { IfSome result (λ number. (least ≤ number) × (number ≤ most)) }
 {
     match word.parse::<u64>() {
-        Ok(number) if 0 < number && number <= most => Some(number),
+        Ok(number) if least <= number && number <= most => Some(number),
         _ => None,
     }
 }
@@ -95,12 +107,18 @@ fn measured<R: Wait + Threads + Sync + Clock>(
     let [_, workload, writers, readers, count] = words else {
         return None;
     };
-    let writers = number_up_to(writers, MOST_CALLERS)?;
-    let readers = number_up_to(readers, MOST_CALLERS)?;
-    let count = number_up_to(count, MOST_OPERATIONS)?;
-    let nanoseconds = match workload.as_str() {
-        "chan" => hand_over::nanoseconds(rt, alloc, writers, readers, count),
-        "solo" => solo::nanoseconds(rt, alloc, count),
+    let writers = number_within(writers, 1, MOST_CALLERS)?;
+    let readers = number_within(readers, 0, MOST_CALLERS)?;
+    let count = number_within(count, 1, MOST_OPERATIONS)?;
+    let nanoseconds = match (workload.as_str(), readers) {
+        ("pairs", 0) => pairs::nanoseconds(rt, alloc, writers, count),
+        ("bag", 0) => bag::nanoseconds(rt, alloc, writers, count),
+        (_, 0) => return None,
+        ("chan", _) => hand_over::nanoseconds(rt, alloc, writers, readers, count),
+        ("wait", _) => waits::nanoseconds(rt, alloc, writers, readers, count),
+        ("block", _) => blocking::nanoseconds(rt, alloc, writers, readers, count),
+        ("solo", _) => solo::nanoseconds(rt, alloc, count),
+        ("steal", _) if writers == 1 => steal::nanoseconds(rt, alloc, readers, count),
         _ => return None,
     };
     Some(per_operation(nanoseconds, count))
