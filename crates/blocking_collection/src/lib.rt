@@ -7,6 +7,9 @@
 //! asks them to stop. [`try_add_any`], [`add_any`], [`try_take_any`] and [`take_any`] go over several
 //! collections.
 //!
+//! Want of memory is the one answer that is left free: a maker or a snapshot that always gave it would
+//! be proved, so tests show that each succeeds, and so does an add to a collection without a bound.
+//!
 //! It stands on `blocking_core` for the machine, on `turn_lock` for the sharing and on `cancel_flag`
 //! for the tokens. It promises upward that each single call adds to what its pass has seen entries of
 //! other callers and then its own entry; which own entries the calls that try again have made, with

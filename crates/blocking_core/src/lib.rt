@@ -8,6 +8,9 @@
 //! With a bound the memory of one list is taken when the state is made, so that only a snapshot can
 //! want more. Without one, and with a list for each caller, an add takes memory too.
 //!
+//! Want of memory is the one answer that is left free: a maker that always gave it would be proved, so
+//! tests show that a state is made and answers.
+//!
 //! Stands on `ho_model`, which says what a blocking collection is, and on `item_lists`. It promises
 //! upward what `Machine` says, and that `Completed` is told exactly where adding has ended and no
 //! item stands.

@@ -1,9 +1,12 @@
 //! Reads and writes that wait, polled as futures or waited out, and given up by a token.
 //!
-//! [`ReadWait`], [`WriteWait`] and [`LookWait`] are futures over a reader or a writer that they borrow: `begin` makes
-//! one begin entry, a poll tries one `Poll`, `cancel` makes one `Cancel`. [`read`] and [`write`] begin,
-//! and poll until there is an answer, with one look at a [`CancelToken`](cancel_flag::CancelToken)
-//! after each own entry that says that the wait stands.
+//! [`ReadWait`], [`WriteWait`] and [`LookWait`] are futures over a reader or a writer that they borrow:
+//! `begin` makes one begin entry, a poll tries one `Poll`, `cancel` makes one `Cancel`. [`read`] and
+//! [`write`] begin, and poll until there is an answer, with one look at a
+//! [`CancelToken`](cancel_flag::CancelToken) after each own entry that says that the wait stands.
+//!
+//! Want of memory is the one answer that is left free, and the begins alone can give it: one that always
+//! gave it would be proved, so tests show that each succeeds.
 //!
 //! It stands on `channels` for single calls and single tries, on `cancel_flag` for the token, on
 //! `channel_laws` for the law that a wait is answered in the kind of its begin, and on `futures` for

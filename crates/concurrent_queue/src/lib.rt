@@ -8,6 +8,9 @@
 //! Enqueues, dequeues, peeks and counts take constant time and no memory; a snapshot is linear and
 //! takes its own.
 //!
+//! Want of memory is the one answer that is left free: a maker, or a snapshot of the machine, that always
+//! gave it would be proved, so tests show that each succeeds.
+//!
 //! Stands on `ho_model`, which says what a queue is, on `item_lists` for the list, and on
 //! `turn_lock` for the sharing. It promises upward that an answered call adds to what its pass has
 //! seen entries of other callers and then its own entry, and that the receipt tells the counts of

@@ -8,6 +8,9 @@
 //! Adds and takes are constant time, but for a take from another caller's list, which looks for the
 //! first list that has an item. Snapshots are linear.
 //!
+//! Want of memory is the one answer that is left free: a maker, a push into a list that grows or a
+//! snapshot that always gave it would be proved, so tests, here and above, show that each succeeds.
+//!
 //! Stands on `ho_base`, on `ho_model` for the words, and on `circular_buffer`.
 #![tactic(auto)]
 
