@@ -5,6 +5,9 @@
 //! for the words and files, and which faults there were; `docs/FORMATS.md` tells commands, statuses and
 //! texts. The crate stands on `record_lang` for what a pipeline and records mean, and on `ho_io` for
 //! files and output.
+//!
+//! No contract can say which words the system gives: `take_words` promises nothing, and the stored run
+//! shows that it takes them.
 #![tactic(auto)]
 
 mod answer;
