@@ -5,7 +5,7 @@ use crate::Trouble;
 use crate::hand_over::{Job, Outcome, Task, longest, tasks_of};
 use crate::line::StartLine;
 use concurrent_bag::{BagAdd, BagPass, BagTake, ConcurrentBag};
-use crossbeam_utils::Backoff;
+use pauses::Pause;
 use std::alloc::Global;
 use std::sync::Wait;
 use std::thread;
@@ -20,11 +20,11 @@ pub fn add_one<R: Wait>(rt: &R, bag: &ConcurrentBag<u64>, pass: &mut BagPass, nu
     requires { pass.old.table ≡ bag.now }
     ensures { pass.new.table ≡ bag.now }
 {
-    let backoff = Backoff::new();
+    let mut pause = Pause::new();
     for _ in rt.forever() {
         match bag.add(rt, pass, number) {
             Ok((BagAdd::Done, _)) => return true,
-            Ok((BagAdd::Full(_), _)) => backoff.snooze(),
+            Ok((BagAdd::Full(_), _)) => pause.take(rt),
             Err(_) => return false,
         }
     }

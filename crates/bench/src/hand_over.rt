@@ -3,10 +3,10 @@ ghost use Rattle.std.specs.Prelude.{◌≡◌, ◌<◌, ◌≤◌, All, IfOk};
 
 use crate::Trouble;
 use crate::line::{StartLine, nanoseconds_since};
-use crate::pause::Pause;
 use channels::{Channel, ReadReply, Reader, WriteReply, Writer};
 use ho_base::NoMemory;
 use ho_model::Mode;
+use pauses::Pause;
 use std::alloc::Global;
 use std::sync::Wait;
 use std::sync::atomic::{AtomicU64, Ordering};

@@ -1,5 +1,6 @@
 // Where threads wait for each other before they are timed.
-use crate::pause::Pause;
+use pauses::Pause;
+use std::sync::Wait;
 use std::sync::atomic::{AtomicU64, Ordering};
 use std::time::{Clock, Instant};
 
@@ -22,7 +23,7 @@ impl StartLine {
     }
 
     /// Returns once all threads have come, with the time then, if the clock tells it.
-    pub fn start<R: Clock>(&self, rt: &R) -> Option<Instant> {
+    pub fn start<R: Wait + Clock>(&self, rt: &R) -> Option<Instant> {
         self.came.fetch_add(1, Ordering::SeqCst);
         let mut pause = Pause::new();
         for _ in 0..MOST_LOOKS {

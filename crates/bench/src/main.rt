@@ -12,7 +12,6 @@ mod blocking;
 mod hand_over;
 mod line;
 mod pairs;
-mod pause;
 mod solo;
 mod steal;
 mod waits;

@@ -6,7 +6,7 @@ use crate::bag::{add_one, jobs_of};
 use crate::hand_over::{Job, Outcome, Task, longest, tasks_of};
 use crate::line::StartLine;
 use concurrent_bag::{BagPass, BagTake, ConcurrentBag};
-use crossbeam_utils::Backoff;
+use pauses::Pause;
 use std::alloc::Global;
 use std::sync::Wait;
 use std::sync::atomic::{AtomicU64, Ordering};
@@ -41,16 +41,16 @@ fn steal_all<R: Wait>(
     requires { pass.table ≡ bag.now }
 {
     let mut sum: u64 = 0;
-    let backoff = Backoff::new();
+    let mut pause = Pause::new();
     for _ in rt.forever() {
         match bag.take(rt, &mut pass) {
             (BagTake::Item { item, .. }, _) => {
                 left.fetch_sub(1, Ordering::SeqCst);
                 sum = sum.wrapping_add(item);
-                backoff.reset();
+                pause.reset();
             }
             (BagTake::Empty, _) if left.load(Ordering::SeqCst) == 0 => return Some(sum),
-            (BagTake::Empty, _) => backoff.snooze(),
+            (BagTake::Empty, _) => pause.take(rt),
         }
     }
     unreachable!()

@@ -6,8 +6,8 @@ ghost use Rattle.blocking_collection.specs.AnyWaits.{AddedAny};
 use crate::collection::BlockingCollection;
 use crate::singles::{AddReply, one_add, one_ask};
 use cancel_flag::CancelToken;
-use crossbeam_utils::Backoff;
 use ho_base::{Item, Unpaid};
+use pauses::Pause;
 use std::sync::Wait;
 use turn_lock::Pass;
 
@@ -65,7 +65,7 @@ pub fn add_any<T: Item, R: Wait>(
     ensures still { AllOf collections.now passes.new }
 {
     let mut given = item;
-    let backoff = Backoff::new();
+    let mut pause = Pause::new();
     for _ in rt.forever() {
         match try_add_any(rt, collections, passes, given) {
             Ok(AnyAdd::NoneUsed(back)) => {
@@ -80,7 +80,7 @@ pub fn add_any<T: Item, R: Wait>(
             Ok(AnyAdd::Cancelled(_)) => unreachable!(),
             Err(unpaid) => return Err(unpaid),
         }
-        backoff.snooze();
+        pause.take(rt);
     }
     unreachable!()
 }

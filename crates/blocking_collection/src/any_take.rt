@@ -6,8 +6,8 @@ ghost use Rattle.blocking_collection.specs.AnyWaits.{TakenAny};
 use crate::collection::BlockingCollection;
 use crate::singles::{TakeReply, one_take};
 use cancel_flag::CancelToken;
-use crossbeam_utils::Backoff;
 use ho_base::Item;
+use pauses::Pause;
 use std::sync::Wait;
 use turn_lock::Pass;
 
@@ -68,7 +68,7 @@ pub fn take_any<T: Item, R: Wait>(
     ensures taken { TakenAny T.priority_of T.mark token.old.looks token.new.looks token.new.seen passes.old passes.new result }
     ensures still { AllOf collections.now passes.new }
 {
-    let backoff = Backoff::new();
+    let mut pause = Pause::new();
     for _ in rt.forever() {
         match try_take_any(rt, collections, passes) {
             AnyTake::NoneUsed => {
@@ -81,7 +81,7 @@ pub fn take_any<T: Item, R: Wait>(
             AnyTake::NoCollection => return AnyTake::NoCollection,
             AnyTake::Cancelled => unreachable!(),
         }
-        backoff.snooze();
+        pause.take(rt);
     }
     unreachable!()
 }

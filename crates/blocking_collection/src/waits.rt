@@ -5,8 +5,8 @@ ghost use Rattle.blocking_collection.specs.Waits.{Added, Taken};
 use crate::collection::BlockingCollection;
 use crate::singles::{AddReply, TakeReply, one_add, one_take};
 use cancel_flag::CancelToken;
-use crossbeam_utils::Backoff;
 use ho_base::{Item, Unpaid};
+use pauses::Pause;
 use std::sync::Wait;
 use turn_lock::Pass;
 
@@ -24,7 +24,7 @@ pub(crate) fn add_on<T: Item, R: Wait>(
     ensures added { Added T.priority_of T.mark token.old.looks token.new.looks token.new.seen item pass.old pass.new result }
 {
     let mut given = item;
-    let backoff = Backoff::new();
+    let mut pause = Pause::new();
     for _ in rt.forever() {
         match one_add(rt, collection, pass, given) {
             Ok(AddReply::Done) => return Ok(AddReply::Done),
@@ -38,7 +38,7 @@ pub(crate) fn add_on<T: Item, R: Wait>(
             Ok(AddReply::Cancelled(_)) => unreachable!(),
             Err(unpaid) => return Err(unpaid),
         }
-        backoff.snooze();
+        pause.take(rt);
     }
     unreachable!()
 }
@@ -55,7 +55,7 @@ pub(crate) fn take_on<T: Item, R: Wait>(
     ensures word { token.new.word ≡ token.old.word }
     ensures taken { Taken T.priority_of T.mark token.old.looks token.new.looks token.new.seen pass.old pass.new result }
 {
-    let backoff = Backoff::new();
+    let mut pause = Pause::new();
     for _ in rt.forever() {
         match one_take(rt, collection, pass) {
             TakeReply::Item(item) => return TakeReply::Item(item),
@@ -67,7 +67,7 @@ pub(crate) fn take_on<T: Item, R: Wait>(
             }
             TakeReply::Cancelled => unreachable!(),
         }
-        backoff.snooze();
+        pause.take(rt);
     }
     unreachable!()
 }
