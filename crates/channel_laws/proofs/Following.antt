@@ -8,33 +8,34 @@ use Rattle.ho_model.specs.declared.objects.Mode.TheVariants.{Wait, DropNewest, D
 use Rattle.ho_base.specs.Marks.{Mark}
 use Rattle.ho_model.specs.declared.marks.CallMark.{CallMark}
 use Rattle.ho_model.specs.declared.marks.ReplyMark.{ReplyMark}
-use Rattle.ho_model.specs.declared.marks.CallMark.TheVariants.{Enq, Deq, Peek, Count, Snap, Add, Take, Write, Read, BeginWrite, BeginRead, BeginLookWrite, BeginLookRead, Poll, Cancel, CompleteWith, Completed, CompleteAdding, AddingCompleted}
+use Rattle.ho_model.specs.declared.marks.CallMark.TheVariants.{Peek, Count, Write, Read, BeginWrite, BeginRead, BeginLookWrite, BeginLookRead, Poll, Cancel, CompleteWith, Completed}
 use Rattle.ho_model.specs.declared.marks.ReplyMark.TheVariants.{Done, Item, Full, Empty, Waiting, Ready, Flag}
 use Rattle.ho_model.specs.Channel.{Standing, WantsItem, WantsRoom, LooksForItem, LooksForRoom, Answered, Waiter, Channel, Kind, Outcome, is_full, read_place, item_at, is_waiting, wants_item, wants_room, looks_for_item, looks_for_room, item_of, waiter_at, answer_if, overflow, written, taken, looked_read, looked_write, drops, or_else, begin, tell, completed, is_wait, polled, cancelled, poll, cancel, channel_answer}
 use Rattle.channel_laws.specs.Reached.{IsNamed}
-use Rattle.channel_laws.specs.Twin.{but_for, twin, is_open, Follows, IsCancelReply, is_of_wait}
-use Rattle.channel_laws.proofs.Places.{some_of, first_is_other, position_some, position_none, but_for-append, open_append, answer_twin, waiter_twin, remove_twin, answered_own, open_other, open_removed, some_twin, none_twin, but_for-map, open_map, own_removed, own_waits, named, below_open, other_named}
+use Rattle.channel_laws.specs.Twin.{but_for, twin, is_open, Follows, standing_of, given_up, is_of_wait}
+use Rattle.channel_laws.proofs.Effects.{told_if, told_name, looks_found, looks_freed}
+use Rattle.channel_laws.proofs.Places.{some_of, first_of, waiter_first, first_is_other, position_some, position_none, but_for-append, open_append, answer_twin, waiter_twin, remove_twin, answered_own, open_other, open_removed, some_twin, none_twin, but_for-map, open_map, own_removed, own_waits, named, below_open, other_named}
 
-if_names_step : (c n : ℕ) (kind : Standing → Bool) (r : ReplyMark) (w : Waiter) (k : Bool) → kind w.standing ≡ k → is_wait c n (answer_if kind r w) ≡ is_wait c n w
-if_names_step c n kind r w true e = simp e refl
-if_names_step c n kind r w false e = simp e refl
+gives_up : (st : Standing) → is_waiting st ≡ true → cancelled st ≡ given_up st
+gives_up (Answered r) h = let no : false ≡ true = h in cc
+gives_up _ h = refl
 
-if_names : (c n : ℕ) (kind : Standing → Bool) (r : ReplyMark) (w : Waiter) → is_wait c n (answer_if kind r w) ≡ is_wait c n w
-if_names c n kind r w = if_names_step c n kind r w (kind w.standing) refl
+standing_step : (c n : ℕ) (w : Waiter) (ws : List Waiter) (k : Bool) → is_wait c n w ≡ k → some_of (is_wait c n) (w ∷ ws) ≡ true → (some_of (is_wait c n) ws ≡ true → (first_of (is_wait c n) ws).standing ≡ standing_of c n ws) → (first_of (is_wait c n) (w ∷ ws)).standing ≡ standing_of c n (w ∷ ws)
+standing_step c n w ws true e there more = simp e refl
+standing_step c n w ws false e there more = simp e (more (simp e at there))
 
-cancel_reply : (st : Standing) → is_waiting st ≡ true → IsCancelReply (cancelled st)
-cancel_reply WantsItem h = inl refl
-cancel_reply (WantsRoom item) h = inr (item, refl)
-cancel_reply LooksForItem h = inl refl
-cancel_reply LooksForRoom h = inl refl
-cancel_reply (Answered r) h = let no : false ≡ true = h in cc
+standing_first : (c n : ℕ) (ws : List Waiter) → some_of (is_wait c n) ws ≡ true → (first_of (is_wait c n) ws).standing ≡ standing_of c n ws
+standing_first c n [] there = let no : false ≡ true = there in cc
+standing_first c n (w ∷ ws) there = standing_step c n w ws (is_wait c n w) refl there (standing_first c n ws)
 
--- a cancel of an unanswered wait leaves exactly the twin
-pub cancel_leaves_twin : (c n : ℕ) (s : Channel) → IsNamed s → is_open c n s.waits ≡ true → IsCancelReply (cancel s c n).0 × ((cancel s c n).1 ≡ twin c n s)
+-- a cancel of an unanswered wait gives it up, and leaves exactly the twin
+pub cancel_leaves_twin : (c n : ℕ) (s : Channel) → IsNamed s → is_open c n s.waits ≡ true → ((cancel s c n).0 ≡ given_up (standing_of c n s.waits)) × ((cancel s c n).1 ≡ twin c n s)
 cancel_leaves_twin c n s names so =
-    let at = position_some (is_wait c n) s.waits (named c n s.waits so) in
+    let there = named c n s.waits so in
+    let at = position_some (is_wait c n) s.waits there in
+    let is : (waiter_at s.waits (position_or_len (is_wait c n) s.waits)).standing ≡ standing_of c n s.waits = ap (λ (w : Waiter). w.standing) (waiter_first (is_wait c n) s.waits) ∙ standing_first c n s.waits there in
     simp at (
-      cancel_reply (waiter_at s.waits (position_or_len (is_wait c n) s.waits)).standing (own_waits c n s.waits (names.once c n) so),
+      gives_up (waiter_at s.waits (position_or_len (is_wait c n) s.waits)).standing (own_waits c n s.waits (names.once c n) so) ∙ ap given_up is,
       ap (λ ws. record s { waits = ws }) (own_removed c n s.waits (names.once c n)),
     )
 
@@ -75,7 +76,7 @@ module _ (c n : ℕ) (s : Channel) (so : is_open c n s.waits ≡ true) where
   written_step kind item false false other false e1 e2 e3 e4 =
       let at = position_none reads s.waits e2 in
       let at' = none_twin c n reads s.waits e2 in
-      simp (e1, at, at', e4) (mapped (answer_if looks_for_item (Ready true)) (if_names c n looks_for_item (Ready true)) Done (s.buffer ++ item ∷ []) s.completion)
+      simp (e1, at, at', e4) (mapped (answer_if looks_for_item (Ready true)) (λ w. told_name c n w (answer_if looks_for_item (Ready true) w) (told_if looks_for_item (Ready true) looks_found w)) Done (s.buffer ++ item ∷ []) s.completion)
 
   written_follows : (kind : Kind) (item : Mark) → Follows c n (written kind s item) (written kind (twin c n s) item)
   written_follows kind item = written_step kind item (is_some s.completion) (some_of reads s.waits) (first_is_other reads c n s.waits) (is_full kind.capacity (length s.buffer)) refl refl refl refl
@@ -93,7 +94,7 @@ module _ (c n : ℕ) (s : Channel) (so : is_open c n s.waits ≡ true) where
       let at = position_none writes s.waits e2 in
       let at' = none_twin c n writes s.waits e2 in
       let place = read_place kind.priority s.buffer in
-      simp (e1, at, at', e4) (mapped (answer_if looks_for_room (Ready true)) (if_names c n looks_for_room (Ready true)) (Item (item_at s.buffer place)) (remove s.buffer place) s.completion)
+      simp (e1, at, at', e4) (mapped (answer_if looks_for_room (Ready true)) (λ w. told_name c n w (answer_if looks_for_room (Ready true) w) (told_if looks_for_room (Ready true) looks_freed w)) (Item (item_at s.buffer place)) (remove s.buffer place) s.completion)
   taken_step kind true false other false done e1 e2 e3 e4 e5 =
       let at = position_none writes s.waits e2 in
       let at' = none_twin c n writes s.waits e2 in
@@ -197,10 +198,4 @@ others_follow kind c n s caller (Cancel number) names so other = cancel_step c n
 others_follow kind c n s caller Peek names so other = peeked_step c n s so kind (nat_le 1 (length s.buffer)) refl
 others_follow kind c n s caller Count names so other = inr (so, refl)
 others_follow kind c n s caller Completed names so other = inr (so, refl)
-others_follow kind c n s caller (Enq item) names so other = refl
-others_follow kind c n s caller Deq names so other = refl
-others_follow kind c n s caller Snap names so other = refl
-others_follow kind c n s caller (Add item) names so other = refl
-others_follow kind c n s caller Take names so other = refl
-others_follow kind c n s caller CompleteAdding names so other = refl
-others_follow kind c n s caller AddingCompleted names so other = refl
+others_follow kind c n s caller _ names so other = refl

@@ -1,5 +1,5 @@
 -- What holds of every state that a history reaches.
-use Rattle.std.specs.Prelude.{◌≡◌, ℕ, ◌<◌, ◌↔◌, List, [], ◌∷◌, ◌++◌, Bool, true, false, Option, Some, None, is_some, length, ◌==◌}
+use Rattle.std.specs.Prelude.{◌≡◌, ℕ, ◌<◌, ◌↔◌, List, [], ◌∷◌, ◌++◌, Bool, true, false, IsTrue, Option, Some, None, is_some, length, ◌==◌}
 use Rattle.std.specs.List.{AllByRecursion}
 use Rattle.std.proofs.Common.{refl, ap, sym, ◌∙◌, subst, arith}
 use Rattle.std.proofs.lemmas.Bool.{and_parts, eqb-true, both_ways}
@@ -16,11 +16,13 @@ use Rattle.ho_model.specs.Channel.{Channel, Kind, Outcome, Standing, WantsItem, 
 use Rattle.ho_model.specs.Entries.{entry}
 use Rattle.ho_model.specs.Objects.{State, QueueState, BagState, ChannelState, BlockingState, object_step, queue_step, bag_object_step, channel_step, blocking_step, stepped, most_callers, empty_state}
 use Rattle.ho_model.proofs.Folds.{and_then_some, legal_last}
-use Rattle.ho_model.proofs.Replies.{channel_entry_is, accepted_caller}
+use Rattle.ho_model.proofs.Replies.{channel_entry, channel_entry_is, accepted_caller, entry_of_caller}
 use Rattle.ho_model.specs.Histories.{fold_from, state_after, IsLegal}
 use Rattle.channel_laws.specs.Kinds.{is_begin}
-use Rattle.channel_laws.specs.Reached.{IsSettled, IsReached, IsChannel, IsChannelObject, Reaches, kind_in}
-use Rattle.channel_laws.proofs.Naming.{HasNamed, StaysNamed, names_stay, empty_is_named}
+use Rattle.channel_laws.specs.Laws.{HasEnded, CompletedAnswersExactly, CompletedExactly}
+use Rattle.channel_laws.specs.Reached.{IsSettled, IsReached, IsChannel, IsChannelObject, Leaves, Reaches, kind_in}
+use Rattle.channel_laws.proofs.Effects.{Holds}
+use Rattle.channel_laws.proofs.Naming.{IsOrdered, order_stays, empty_in_order}
 use Rattle.channel_laws.proofs.Settling.{HasRoom, StaysReached, steps_stay, empty_is_reached}
 
 -- an entry of a channel object is one of its channel
@@ -83,18 +85,19 @@ pub history_reaches : (priority : Mark → ℕ) (o : Object) (history : List Ent
 history_reaches priority o history t room h =
     runs_stay priority o room history empty_channel t (empty_is_reached (kind_in priority o)) (subst (λ (n : State). fold_from priority o n history ≡ Some t) (starts_empty o (is_channel o room)) h)
 
-runs_named : (priority : Mark → ℕ) (o : Object) → IsChannel o → (es : List EntryMark) (s : Channel) (t : State) → HasNamed s → fold_from priority o (ChannelState s) es ≡ Some t → (x : Channel) × (t ≡ ChannelState x) × HasNamed x
+runs_named : (priority : Mark → ℕ) (o : Object) → IsChannel o → (es : List EntryMark) (s : Channel) (t : State) → IsOrdered s.begins s.waits → fold_from priority o (ChannelState s) es ≡ Some t → (x : Channel) × (t ≡ ChannelState x) × IsOrdered x.begins x.waits
 runs_named priority o is [] s t was h = let e : ChannelState s ≡ t = cc in (s, sym e, was)
 runs_named priority o is (e ∷ es) s t was h =
     let by = and_then_some (λ n. fold_from priority o n es) (object_step priority o (ChannelState s) e) t h in
     let own = entry_is priority o is s e by.0 by.1 in
-    let kept = names_stay (kind_in priority o) s e.caller e.call own.caller was in
-    runs_named priority o is es own.after t (subst StaysNamed own.answer kept) (subst (λ (n : State). fold_from priority o n es ≡ Some t) own.state by.2)
+    let kept = order_stays (kind_in priority o) s e.caller e.call own.caller was in
+    runs_named priority o is es own.after t (subst (Holds IsOrdered) own.answer kept) (subst (λ (n : State). fold_from priority o n es ≡ Some t) own.state by.2)
 
--- after a legal history of a channel of any capacity each wait has a name of its own
-pub history_names : (priority : Mark → ℕ) (o : Object) (history : List EntryMark) (t : State) → IsChannel o → state_after priority o history ≡ Some t → (x : Channel) × (t ≡ ChannelState x) × HasNamed x
+-- after a legal history of a channel of any capacity each wait has a name of its own, and each stored
+-- answer is one
+pub history_names : (priority : Mark → ℕ) (o : Object) (history : List EntryMark) (t : State) → IsChannel o → state_after priority o history ≡ Some t → (x : Channel) × (t ≡ ChannelState x) × IsOrdered x.begins x.waits
 history_names priority o history t is h =
-    runs_named priority o is history empty_channel t empty_is_named (subst (λ (n : State). fold_from priority o n history ≡ Some t) (starts_empty o is) h)
+    runs_named priority o is history empty_channel t empty_in_order (subst (λ (n : State). fold_from priority o n history ≡ Some t) (starts_empty o is) h)
 
 -- no other object accepts a begin
 queue_begins_not : (room : ℕ) (s t : State) (c : ℕ) (call : CallMark) (r : ReplyMark) → is_begin call ≡ true → queue_step room s (entry c call r) ≡ Some t → ⊥
@@ -134,9 +137,15 @@ begins_are_of_channels priority o before e so legal =
     let last = legal_last priority o before e legal in
     begun_of_channel priority o last.0 last.1 e so (accepted_caller priority o last.0 last.1 e last.2).1
 
-abbrev channel_in : State → Channel
+abbrev pub channel_in : State → Channel
 channel_in (ChannelState s) = s
 channel_in _ = empty_channel
+
+-- the channel that a history leaves is in order
+pub ordered_by : (priority : Mark → ℕ) (o : Object) (history : List EntryMark) (s : Channel) → Leaves priority o history s → IsOrdered s.begins s.waits
+ordered_by priority o history s l =
+    let by = history_names priority o history (ChannelState s) l.0 l.1 in
+    subst (λ (x : Channel). IsOrdered x.begins x.waits) (sym (ap channel_in by.1)) by.2
 
 -- a law of the states that histories reach holds after each legal history
 pub reached_by : (priority : Mark → ℕ) (o : Object) (history : List EntryMark) (s : Channel) → Reaches priority o history s → IsReached (kind_in priority o) s
@@ -167,18 +176,48 @@ empty_from : (xs : List Mark) → length xs ≡ 0 → xs ≡ []
 empty_from [] h = refl
 empty_from (x ∷ xs) h = absurd (omega arith)
 
-abbrev flag_in : ReplyMark → Bool
-flag_in (Flag b) = b
+completed_ended : (s : Channel) → is_completed s ≡ true → HasEnded s
+completed_ended s h = let parts = and_parts (is_some s.completion) (length s.buffer == 0) h in (parts.0, empty_from s.buffer (eqb-true (length s.buffer) 0 parts.1))
+
+ended_completed : (s : Channel) → HasEnded s → is_completed s ≡ true
+ended_completed s h = let z : (length s.buffer == 0) ≡ true = ap (λ b. length b == 0) h.1 in simp (h.0, z) refl
+
+abbrev flag_in : Option Outcome → Bool
+flag_in (Some (Flag b, s)) = b
 flag_in _ = false
 
-abbrev said : Option Outcome → Bool
-said None = false
-said (Some o) = flag_in o.0
+abbrev after_in : Channel → Option Outcome → Channel
+after_in s None = s
+after_in s (Some o) = o.1
 
-pub completed_exactly : (kind : Kind) (s : Channel) (caller : ℕ) → (channel_answer kind s caller Completed ≡ Some (Flag true, s)) ↔ ((is_some s.completion ≡ true) × (s.buffer ≡ []))
-completed_exactly kind s caller = (
-  (λ h. let e : is_completed s ≡ true = ap said h in
-      let parts = and_parts (is_some s.completion) (length s.buffer == 0) e in
-      (parts.0, empty_from s.buffer (eqb-true (length s.buffer) 0 parts.1))),
-  (λ h. let z : (length s.buffer == 0) ≡ true = ap (λ b. length b == 0) h.1 in simp (h.0, z) refl),
-)
+told_step : (s : Channel) (told done : Bool) → is_completed s ≡ done → (IsTrue told ↔ HasEnded s) → done ≡ told
+told_step s true true e h = refl
+told_step s true false e h = absurd (both_ways (is_completed s) e (ended_completed s (h.0 refl)))
+told_step s false true e h = absurd (both_ways false refl (h.1 (completed_ended s e)))
+told_step s false false e h = refl
+
+module _ (priority : Mark → ℕ) (o : Object) (s : Channel) (after : State) (caller : ℕ) (told : Bool) (channel : IsChannel o) where
+  abbrev asks : EntryMark
+  asks = entry caller Completed (Flag told)
+
+  exact_after : object_step priority o (ChannelState s) asks ≡ Some after → (caller < most_callers) × (after ≡ ChannelState s) × (IsTrue told ↔ HasEnded s)
+  exact_after h =
+      let own = entry_is priority o channel s asks after h in
+      let flag : is_completed s ≡ told = ap flag_in own.answer in
+      let same : s ≡ own.after = ap (after_in s) own.answer in (
+        own.caller,
+        own.state ∙ ap ChannelState (sym same),
+        ((λ is. completed_ended s (flag ∙ is)), (λ ended. sym flag ∙ ended_completed s ended)),
+      )
+
+  exact_before : (caller < most_callers) × (after ≡ ChannelState s) × (IsTrue told ↔ HasEnded s) → object_step priority o (ChannelState s) asks ≡ Some after
+  exact_before h =
+      let flag : is_completed s ≡ told = told_step s told (is_completed s) refl h.2 in
+      let step = kind_is priority o channel s asks ∙ channel_entry (kind_in priority o) s s caller Completed (Flag told) (ap (λ b. Some (Flag b, s)) flag) in
+      entry_of_caller priority o (ChannelState s) (ChannelState s) asks h.0 step ∙ ap (λ (u : State). Some u) (sym h.1)
+
+pub completed_answers_exactly : CompletedAnswersExactly
+completed_answers_exactly kind s caller = ((λ h. completed_ended s (ap flag_in h)), (λ ended. ap (λ b. Some (Flag b, s)) (ended_completed s ended)))
+
+pub completed_exactly : CompletedExactly
+completed_exactly priority o s after caller told channel = (exact_after priority o s after caller told channel, exact_before priority o s after caller told channel)

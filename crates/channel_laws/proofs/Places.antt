@@ -230,7 +230,7 @@ module _ (c n : ℕ) where
   counted : (w : Waiter) (ws : List Waiter) → count_by (is_wait c n) (w ∷ ws) ≡ cond (is_wait c n w) 1 0 + count_by (is_wait c n) ws
   counted w ws = sum_by-cons (λ v. cond (is_wait c n v) 1 0) w ws
 
-  count_step : (w : Waiter) (ws : List Waiter) (m : Bool) (b : ℕ) → is_wait c n w ≡ m → count_by (is_wait c n) (w ∷ ws) ≤ b → cond m 1 0 + count_by (is_wait c n) ws ≤ b
+  pub count_step : (w : Waiter) (ws : List Waiter) (m : Bool) (b : ℕ) → is_wait c n w ≡ m → count_by (is_wait c n) (w ∷ ws) ≤ b → cond m 1 0 + count_by (is_wait c n) ws ≤ b
   count_step w ws m b e h = let k : count_by (is_wait c n) (w ∷ ws) ≡ cond m 1 0 + count_by (is_wait c n) ws = counted w ws ∙ ap (λ z. cond z 1 0 + count_by (is_wait c n) ws) e in omega arith
 
   empty_step : (w : Waiter) (ws : List Waiter) (m : Bool) → is_wait c n w ≡ m → cond m 1 0 + count_by (is_wait c n) ws ≤ 0 → (count_by (is_wait c n) ws ≤ 0 → but_for c n ws ≡ ws) → but_for c n (w ∷ ws) ≡ w ∷ ws

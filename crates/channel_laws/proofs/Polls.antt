@@ -1,6 +1,6 @@
 -- A poll or a cancel of a wait answers in the kind of the begin that left it, after every legal history.
 use Rattle.std.specs.Prelude.{ℕ, List, [], ◌∷◌, ◌++◌, Bool, true, false, not, ◌&&◌, ◌||◌, ◌==◌, Option, Some, None, nat_le, slice_index, is_some, unwrap_or, length}
-use Rattle.std.specs.List.{AllByRecursion, position_or_len}
+use Rattle.std.specs.List.{AllByRecursion}
 use Rattle.std.proofs.Common.{◌≡◌, refl, ap, sym, ◌∙◌, subst, ◌<◌, ◌⊎◌, arith, append_assoc}
 use Rattle.std.proofs.lemmas.Bool.{and_parts, eqb-true, eq-eqb, both_ways}
 use Rattle.ho_base.specs.Marks.{Mark}
@@ -13,15 +13,18 @@ use Rattle.ho_model.specs.declared.marks.EntryMark.{EntryMark}
 use Rattle.ho_model.specs.declared.marks.CallMark.TheVariants.{BeginWrite, BeginRead, BeginLookWrite, BeginLookRead, Poll, Cancel}
 use Rattle.ho_model.specs.declared.marks.ReplyMark.TheVariants.{Waiting}
 use Rattle.ho_model.specs.Entries.{entry}
-use Rattle.ho_model.specs.Channel.{Standing, WantsItem, WantsRoom, LooksForItem, LooksForRoom, Answered, Waiter, Channel, Kind, Outcome, is_full, is_waiting, oldest, wants_item, waiter_at, overflow, written, taken, looked_read, looked_write, told_complete, drops, begin, is_wait, poll, polled, cancel, channel_answer}
+use Rattle.ho_model.specs.Channel.{Standing, WantsItem, WantsRoom, LooksForItem, LooksForRoom, Answered, Waiter, Channel, Kind, Outcome, is_full, is_waiting, oldest, wants_item, overflow, written, taken, looked_read, looked_write, told_complete, drops, begin, is_wait, poll, cancel, channel_answer}
 use Rattle.ho_model.specs.Objects.{State, ChannelState, object_step, empty_state}
 use Rattle.ho_model.specs.Histories.{fold_from, IsLegal}
 use Rattle.ho_model.proofs.Folds.{and_then_some, fold_append, begins_from, legal_begins}
 use Rattle.channel_laws.specs.Reached.{IsNamed, IsChannel, kind_in}
 use Rattle.channel_laws.specs.Twin.{is_of_wait}
-use Rattle.channel_laws.specs.Kinds.{AnswersBegin, CancelsBegin, IsInKind, StandsAs, is_waiting_reply, ends_by, ends_wait, is_begin}
+use Rattle.channel_laws.specs.Kinds.{AnswersBegin, CancelsBegin, IsInKind, is_waiting_reply, ends_by, ends_wait, is_begin}
 use Rattle.channel_laws.proofs.Places.{some_of}
-use Rattle.channel_laws.proofs.InKind.{KeepsKind, as_push, others_keep, own_standing, own_poll, own_poll_step, own_cancel}
+use Rattle.channel_laws.proofs.InKind.{StandsAs, answers_in_kind, own_poll, own_cancel}
+use Rattle.channel_laws.proofs.Effects.{Holds}
+use Rattle.channel_laws.proofs.Standing.{StandsIn, KeepsAnswers, as_push, stands_weaker, others_stand, poll_kept}
+use Rattle.channel_laws.proofs.Naming.{named_of}
 use Rattle.channel_laws.proofs.Histories.{entry_is, history_names, begins_are_of_channels}
 
 -- 1. Answers are no replies of a wait that stands
@@ -37,25 +40,6 @@ answers_not_waiting : (b : CallMark) (r : ReplyMark) → AnswersBegin b r → is
 answers_not_waiting b (Waiting m) h k = never_waiting b m h
 answers_not_waiting b _ h k = both_ways false refl k
 
-kept_step : (b : CallMark) (n : ℕ) (st : Standing) → is_waiting st ≡ false → IsInKind b st → is_waiting_reply (polled st n) ≡ true → ⊥
-kept_step b n WantsItem e k w = both_ways true e refl
-kept_step b n (WantsRoom x) e k w = both_ways true e refl
-kept_step b n LooksForItem e k w = both_ways true e refl
-kept_step b n LooksForRoom e k w = both_ways true e refl
-kept_step b n (Answered r) e k w = answers_not_waiting b r k w
-
-module _ (b : CallMark) (c n : ℕ) (s : Channel) (h : StandsAs b c n s.waits) where
-  abbrev stands_at : Standing
-  stands_at = (waiter_at s.waits (position_or_len (is_wait c n) s.waits)).standing
-
-  poll_kept_step : (k : Bool) → is_waiting stands_at ≡ k → is_waiting_reply (poll s c n).0 ≡ true → (poll s c n).1 ≡ s
-  poll_kept_step true e w = (own_poll_step b c n s h true e).1 refl
-  poll_kept_step false e w = absurd (kept_step b n stands_at e (own_standing b c n s h) (ap is_waiting_reply (sym (own_poll_step b c n s h false e).0) ∙ w))
-
-  -- a poll that says that the wait stands changes nothing
-  poll_kept : is_waiting_reply (poll s c n).0 ≡ true → (poll s c n).1 ≡ s
-  poll_kept = poll_kept_step (is_waiting stands_at) refl
-
 -- 2. One entry that does not end the wait
 
 own_name : (c n d m : ℕ) → ((d == c) && (m == n)) ≡ true → (d ≡ c) × (m ≡ n)
@@ -70,37 +54,48 @@ not_ended c n d m false e h =
 ended : (c n d m : ℕ) → ((d == c) && (m == n)) ≡ true → ((d == c) && (m == n)) ≡ false → ⊥
 ended c n d m e h = both_ways ((d == c) && (m == n)) h e
 
-own_poll_keeps : (b : CallMark) (c n d m : ℕ) (s x : Channel) (r : ReplyMark) → StandsAs b c n s.waits → d ≡ c → m ≡ n → is_waiting_reply r ≡ true → ◌≡◌ {A = Outcome} (poll s d m) (r, x) → StandsAs b c n x.waits
-own_poll_keeps b c n d m s x r h ed em w is =
-    let own : ◌≡◌ {A = Outcome} (poll s c n) (r, x) = rw (ed, em) at is in
-    let kept : (poll s c n).1 ≡ s = poll_kept b c n s h (ap (λ (o : Outcome). is_waiting_reply o.0) own ∙ w) in
-    subst (λ (y : Channel). StandsAs b c n y.waits) (sym kept ∙ ap (λ (o : Outcome). o.1) own) h
-
-the_outcome : (o p : Outcome) → Some o ≡ Some p → o ≡ p
+pub the_outcome : (o p : Outcome) → Some o ≡ Some p → o ≡ p
 the_outcome o p e = let f : o ≡ p = cc in f
 
-own_step : (kind : Kind) (b : CallMark) (c n : ℕ) (s x : Channel) (d : ℕ) (call : CallMark) (r : ReplyMark) → StandsAs b c n s.waits → is_of_wait c n d call ≡ true → ((d == c) && ends_by n call r) ≡ false → ◌≡◌ {A = Option Outcome} (channel_answer kind s d call) (Some (r, x)) → StandsAs b c n x.waits
-own_step kind b c n s x d (Poll m) r h own last is =
-    let names = own_name c n d m own in
-    own_poll_keeps b c n d m s x r h names.0 names.1 (not_ended c n d m (is_waiting_reply r) own last) (the_outcome (poll s d m) (r, x) is)
-own_step kind b c n s x d (Cancel m) r h own last is = absurd (ended c n d m own last)
-own_step kind b c n s x d _ r h own last is = absurd (both_ways false refl own)
+-- how the wait may stand: answers keep it so, and none says that the wait stands
+pub record IsKept (Q : Standing → Type 0) : Type 0 where
+  pub answers : KeepsAnswers Q
+  pub silent : (r : ReplyMark) → Q (Answered r) → is_waiting_reply r ≡ true → ⊥
 
-entry_step : (kind : Kind) (b : CallMark) (c n : ℕ) (s x : Channel) (e : EntryMark) (k : Bool) → is_of_wait c n e.caller e.call ≡ k → StandsAs b c n s.waits → ends_wait c n e ≡ false → ◌≡◌ {A = Option Outcome} (channel_answer kind s e.caller e.call) (Some (e.reply, x)) → StandsAs b c n x.waits
-entry_step kind b c n s x e true own h last is = own_step kind b c n s x e.caller e.call e.reply h own last is
-entry_step kind b c n s x e false other h last is = subst (KeepsKind b c n) is (others_keep kind b c n s h e.caller e.call other)
+module _ (Q : Standing → Type 0) (q : IsKept Q) (c n : ℕ) where
+  own_poll_same : (d m : ℕ) (s x : Channel) (r : ReplyMark) → StandsIn Q c n s.waits → d ≡ c → m ≡ n → is_waiting_reply r ≡ true → ◌≡◌ {A = Outcome} (poll s d m) (r, x) → x ≡ s
+  own_poll_same d m s x r h ed em w is =
+      let own : ◌≡◌ {A = Outcome} (poll s c n) (r, x) = rw (ed, em) at is in
+      let kept : (poll s c n).1 ≡ s = poll_kept Q c n s h q.silent (ap (λ (o : Outcome). is_waiting_reply o.0) own ∙ w) in
+      sym (ap (λ (o : Outcome). o.1) own) ∙ kept
 
--- entries that do not end the wait leave it in kind
-entries_keep : (priority : Mark → ℕ) (o : Object) → IsChannel o → (b : CallMark) (c n : ℕ) (es : List EntryMark) (s : Channel) (t : State) → StandsAs b c n s.waits → AllByRecursion (λ e. ends_wait c n e ≡ false) es → fold_from priority o (ChannelState s) es ≡ Some t
-    → (x : Channel) × (t ≡ ChannelState x) × StandsAs b c n x.waits
-entries_keep priority o channel b c n [] s t h last f = let e : ChannelState s ≡ t = cc in (s, sym e, h)
-entries_keep priority o channel b c n (e ∷ es) s t h last f =
-    let by = and_then_some (λ u. fold_from priority o u es) (object_step priority o (ChannelState s) e) t f in
-    let own = entry_is priority o channel s e by.0 by.1 in
-    entries_keep priority o channel b c n es own.after t
-    (entry_step (kind_in priority o) b c n s own.after e (is_of_wait c n e.caller e.call) refl h last.0 own.answer)
-    last.1
-    (subst (λ (u : State). fold_from priority o u es ≡ Some t) own.state by.2)
+  -- a call of the wait's own that does not end it changes nothing
+  pub own_same : (kind : Kind) (s x : Channel) (d : ℕ) (call : CallMark) (r : ReplyMark) → StandsIn Q c n s.waits → is_of_wait c n d call ≡ true → ((d == c) && ends_by n call r) ≡ false → ◌≡◌ {A = Option Outcome} (channel_answer kind s d call) (Some (r, x)) → x ≡ s
+  own_same kind s x d (Poll m) r h own last is =
+      let names = own_name c n d m own in
+      own_poll_same d m s x r h names.0 names.1 (not_ended c n d m (is_waiting_reply r) own last) (the_outcome (poll s d m) (r, x) is)
+  own_same kind s x d (Cancel m) r h own last is = absurd (ended c n d m own last)
+  own_same kind s x d _ r h own last is = absurd (both_ways false refl own)
+
+  entry_step : (kind : Kind) (s x : Channel) (e : EntryMark) (k : Bool) → is_of_wait c n e.caller e.call ≡ k → StandsIn Q c n s.waits → ends_wait c n e ≡ false → ◌≡◌ {A = Option Outcome} (channel_answer kind s e.caller e.call) (Some (e.reply, x)) → StandsIn Q c n x.waits
+  entry_step kind s x e true own h last is = subst (λ (y : Channel). StandsIn Q c n y.waits) (sym (own_same kind s x e.caller e.call e.reply h own last is)) h
+  entry_step kind s x e false other h last is = subst (Holds (λ begins ws. StandsIn Q c n ws)) is (others_stand Q q.answers c n kind s e.caller e.call h other)
+
+  -- entries that do not end the wait leave it so
+  pub entries_keep : (priority : Mark → ℕ) (o : Object) → IsChannel o → (es : List EntryMark) (s : Channel) (t : State) → StandsIn Q c n s.waits → AllByRecursion (λ e. ends_wait c n e ≡ false) es → fold_from priority o (ChannelState s) es ≡ Some t
+      → (x : Channel) × (t ≡ ChannelState x) × StandsIn Q c n x.waits
+  entries_keep priority o channel [] s t h last f = let e : ChannelState s ≡ t = cc in (s, sym e, h)
+  entries_keep priority o channel (e ∷ es) s t h last f =
+      let by = and_then_some (λ u. fold_from priority o u es) (object_step priority o (ChannelState s) e) t f in
+      let own = entry_is priority o channel s e by.0 by.1 in
+      entries_keep priority o channel es own.after t
+      (entry_step (kind_in priority o) s own.after e (is_of_wait c n e.caller e.call) refl h last.0 own.answer)
+      last.1
+      (subst (λ (u : State). fold_from priority o u es ≡ Some t) own.state by.2)
+
+-- the kind of a begin is kept
+pub kind_kept : (b : CallMark) → IsKept (IsInKind b)
+kind_kept b = record { answers = answers_in_kind b; silent = answers_not_waiting b }
 
 -- 3. The begin
 
@@ -158,28 +153,32 @@ number_in _ = 0
 same_name : (c k n : ℕ) → k ≡ n → ((c == c) && (k == n)) ≡ true
 same_name c k n e = simp (eq-eqb c c refl, eq-eqb k n e) refl
 
-module _ (b : CallMark) (c n : ℕ) (s x : Channel) (names : IsNamed s) (standing : Standing) (own : IsInKind b standing) where
-  begun : ◌≡◌ {A = Outcome} (begin s c standing None) (Waiting n, x) → StandsAs b c n x.waits
+module _ (Q : Standing → Type 0) (c n : ℕ) (s x : Channel) (names : IsNamed s) (standing : Standing) (own : Q standing) where
+  begun : ◌≡◌ {A = Outcome} (begin s c standing None) (Waiting n, x) → StandsIn Q c n x.waits
   begun is =
       let number : slice_index s.begins c ≡ n = ap (λ (o : Outcome). number_in o.0) is in
       let new : Waiter = record { caller = c; number = slice_index s.begins c; standing = standing } in
-      subst (λ (y : Channel). StandsAs b c n y.waits) (ap (λ (o : Outcome). o.1) is)
-      (as_push b c n s.waits new (no_name s.begins c n s.waits (sym number) names.below) (same_name c (slice_index s.begins c) n number) own)
+      subst (λ (y : Channel). StandsIn Q c n y.waits) (ap (λ (o : Outcome). o.1) is)
+      (as_push Q c n s.waits new (no_name s.begins c n s.waits (sym number) names.below) (same_name c (slice_index s.begins c) n number) own)
 
-  begun_after : (tried : Option Outcome) → NotWaiting tried → ◌≡◌ {A = Outcome} (begin s c standing tried) (Waiting n, x) → StandsAs b c n x.waits
+  begun_after : (tried : Option Outcome) → NotWaiting tried → ◌≡◌ {A = Outcome} (begin s c standing tried) (Waiting n, x) → StandsIn Q c n x.waits
   begun_after None t is = begun is
   begun_after (Some o) t is = absurd (both_ways (is_waiting_reply o.0) t (ap (λ (p : Outcome). is_waiting_reply p.0) is))
 
--- a begin that waits leaves a wait in its kind
-begin_stands : (kind : Kind) (b : CallMark) (c n : ℕ) (s x : Channel) → IsNamed s → is_begin b ≡ true → ◌≡◌ {A = Option Outcome} (channel_answer kind s c b) (Some (Waiting n, x)) → StandsAs b c n x.waits
+-- an unanswered wait in the kind of a begin
+abbrev pub IsNew : CallMark → Standing → Type 0
+IsNew b st = IsInKind b st × (is_waiting st ≡ true)
+
+-- a begin that waits leaves such a wait
+pub begin_stands : (kind : Kind) (b : CallMark) (c n : ℕ) (s x : Channel) → IsNamed s → is_begin b ≡ true → ◌≡◌ {A = Option Outcome} (channel_answer kind s c b) (Some (Waiting n, x)) → StandsIn (IsNew b) c n x.waits
 begin_stands kind (BeginWrite item) c n s x names so is =
-    begun_after (BeginWrite item) c n s x names (WantsRoom item) refl (written kind s item) (written_step kind s item (is_some s.completion) (is_some (oldest wants_item s.waits)) (is_full kind.capacity (length s.buffer)) refl refl refl) (the_outcome _ _ is)
+    begun_after (IsNew (BeginWrite item)) c n s x names (WantsRoom item) (refl, refl) (written kind s item) (written_step kind s item (is_some s.completion) (is_some (oldest wants_item s.waits)) (is_full kind.capacity (length s.buffer)) refl refl refl) (the_outcome _ _ is)
 begin_stands kind BeginRead c n s x names so is =
-    begun_after BeginRead c n s x names WantsItem refl (taken kind s) (taken_step kind s (nat_le 1 (length s.buffer)) (is_some s.completion) refl refl) (the_outcome _ _ is)
+    begun_after (IsNew BeginRead) c n s x names WantsItem (refl, refl) (taken kind s) (taken_step kind s (nat_le 1 (length s.buffer)) (is_some s.completion) refl refl) (the_outcome _ _ is)
 begin_stands kind BeginLookRead c n s x names so is =
-    begun_after BeginLookRead c n s x names LooksForItem refl (looked_read s) (looked_read_step s (nat_le 1 (length s.buffer)) (is_some s.completion) refl refl) (the_outcome _ _ is)
+    begun_after (IsNew BeginLookRead) c n s x names LooksForItem (refl, refl) (looked_read s) (looked_read_step s (nat_le 1 (length s.buffer)) (is_some s.completion) refl refl) (the_outcome _ _ is)
 begin_stands kind BeginLookWrite c n s x names so is =
-    begun_after BeginLookWrite c n s x names LooksForRoom refl (looked_write kind s) (looked_write_step kind s (is_some s.completion) (not (is_full kind.capacity (length s.buffer)) || drops kind.mode) refl refl) (the_outcome _ _ is)
+    begun_after (IsNew BeginLookWrite) c n s x names LooksForRoom (refl, refl) (looked_write kind s) (looked_write_step kind s (is_some s.completion) (not (is_full kind.capacity (length s.buffer)) || drops kind.mode) refl refl) (the_outcome _ _ is)
 begin_stands kind _ c n s x names so is = absurd (both_ways false refl so)
 
 -- 4. The law
@@ -203,10 +202,10 @@ last_is priority o before rest c n b call r so last legal =
     let from_begin = subst (λ (u : State). fold_from priority o u (entry c b (Waiting n) ∷ es) ≡ Some t) reached.1 from_first in
     let by = and_then_some (λ u. fold_from priority o u es) (object_step priority o (ChannelState reached.0) (entry c b (Waiting n))) t from_begin in
     let own = entry_is priority o channel reached.0 (entry c b (Waiting n)) by.0 by.1 in
-    let stands = begin_stands (kind_in priority o) b c n reached.0 own.after reached.2.named so own.answer in
+    let stands = stands_weaker (IsNew b) (IsInKind b) (λ st new. new.0) c n own.after.waits (begin_stands (kind_in priority o) b c n reached.0 own.after (named_of reached.0 reached.2) so own.answer) in
     let from_wait = subst (λ (u : State). fold_from priority o u es ≡ Some t) own.state by.2 in
     let until = begins_from priority o (ChannelState own.after) t rest (entry c call r ∷ []) from_wait in
-    let kept = entries_keep priority o channel b c n rest own.after until.0 stands last until.1 in
+    let kept = entries_keep (IsInKind b) (kind_kept b) c n priority o channel rest own.after until.0 stands last until.1 in
     let from_last : fold_from priority o until.0 (entry c call r ∷ []) ≡ Some t = sym (fold_append priority o (ChannelState own.after) until.0 rest (entry c call r ∷ []) until.1) ∙ from_wait in
     let from_kept = subst (λ (u : State). fold_from priority o u (entry c call r ∷ []) ≡ Some t) kept.1 from_last in
     let end = and_then_some (λ u. fold_from priority o u []) (object_step priority o (ChannelState kept.0) (entry c call r)) t from_kept in

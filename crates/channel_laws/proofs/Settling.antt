@@ -1,5 +1,5 @@
 -- Each state that a history reaches is settled: row by row.
-use Rattle.std.specs.Prelude.{ℕ, List, [], ◌∷◌, ◌++◌, Bool, true, false, map, cond, Option, Some, None, remove, nat_le, slice_index, slice_set, is_some}
+use Rattle.std.specs.Prelude.{ℕ, List, [], ◌∷◌, ◌++◌, Bool, true, false, map, Option, Some, None, remove, nat_le, slice_index, slice_set, is_some}
 use Rattle.std.specs.List.{position_or_len}
 use Rattle.std.proofs.Common.{◌≡◌, refl, ap, ◌∙◌, ◌+◌, ◌<◌, ◌≤◌, length, arith, take, drop, suc}
 use Rattle.std.proofs.lemmas.Bool.{leb-true, leb-false, both_ways}
@@ -9,12 +9,14 @@ use Rattle.ho_model.specs.declared.objects.Mode.TheVariants.{Wait, DropNewest, D
 use Rattle.ho_base.specs.Marks.{Mark}
 use Rattle.ho_model.specs.declared.marks.CallMark.{CallMark}
 use Rattle.ho_model.specs.declared.marks.ReplyMark.{ReplyMark}
-use Rattle.ho_model.specs.declared.marks.CallMark.TheVariants.{Enq, Deq, Peek, Count, Snap, Add, Take, Write, Read, BeginWrite, BeginRead, BeginLookWrite, BeginLookRead, Poll, Cancel, CompleteWith, Completed, CompleteAdding, AddingCompleted}
+use Rattle.ho_model.specs.declared.marks.CallMark.TheVariants.{Peek, Count, Write, Read, BeginWrite, BeginRead, BeginLookWrite, BeginLookRead, Poll, Cancel, CompleteWith, Completed}
 use Rattle.ho_model.specs.declared.marks.ReplyMark.TheVariants.{Done, Item, Full, Empty, Ready}
-use Rattle.ho_model.specs.Channel.{Standing, WantsItem, WantsRoom, LooksForItem, LooksForRoom, Answered, Waiter, Channel, Kind, Outcome, is_full, least_place, read_place, is_waiting, wants_item, wants_room, looks_for_item, looks_for_room, item_of, waiter_at, answer_if, answer_at, overflow, written, taken, looked_read, looked_write, drops, or_else, begin, tell, told, completed, is_wait, poll, cancel, channel_answer, empty_channel}
+use Rattle.ho_model.specs.Channel.{Standing, WantsItem, WantsRoom, LooksForItem, LooksForRoom, Answered, Waiter, Channel, Kind, Outcome, is_full, read_place, is_waiting, wants_item, wants_room, looks_for_item, looks_for_room, item_of, waiter_at, answer_if, answer_at, overflow, written, taken, looked_read, looked_write, drops, or_else, begin, tell, told, completed, is_wait, poll, cancel, channel_answer, empty_channel}
 use Rattle.channel_laws.specs.Reached.{IsSettled, IsReached}
 use Rattle.channel_laws.proofs.Places.{some_of, position_some, position_none, answer_there, remove_there}
-use Rattle.channel_laws.proofs.Waiters.{Each, each_weaker, each_map, each_push, each_answer, each_drop, each_none, if_caller, if_number, HasNames, names_answer, names_drop, names_map, names_count, names_stand}
+use Rattle.channel_laws.proofs.Effects.{told_if, looks_found, looks_freed}
+use Rattle.channel_laws.proofs.Least.{reads_take_first_least}
+use Rattle.channel_laws.proofs.Waiters.{Each, each_weaker, each_map, each_push, each_answer, each_drop, each_none, HasNames, names_answer, names_drop, names_map, names_count, names_stand}
 
 -- a buffer with a capacity has room for one item at least
 abbrev pub HasRoom : Option ℕ → Type 0
@@ -39,22 +41,9 @@ full_some None count room h = let f : false ≡ true = h in cc
 full_some (Some k) count room h = let l : k ≤ count = leb-true k count h in omega arith
 
 -- the place of a read is one of the buffer's
-least_step : (priority : Mark → ℕ) (x : Mark) (rest : ℕ × Mark) (bound : ℕ) (k : Bool) → nat_le (priority x) (priority rest.1) ≡ k → rest.0 < bound → (cond {A = ℕ × Mark} k (0, x) (rest.0 + 1, rest.1)).0 < bound + 1
-least_step priority x rest bound true e l = omega arith
-least_step priority x rest bound false e l = omega arith
-
-least_below : (priority : Mark → ℕ) (x : Mark) (xs : List Mark) → (least_place priority x xs).0 < length xs + 1
-least_below priority x [] = omega arith
-least_below priority x (y ∷ ys) =
-    let rest = least_place priority y ys in
-    let l : rest.0 < length ys + 1 = least_below priority y ys in
-    let m = least_step priority x rest (length ys + 1) (nat_le (priority x) (priority rest.1)) refl l in
-    omega arith
-
 read_below : (priority : Option (Mark → ℕ)) (buffer : List Mark) → 1 ≤ length buffer → read_place priority buffer < length buffer
 read_below None buffer h = omega arith
-read_below (Some priority) [] h = absurd (omega arith)
-read_below (Some priority) (x ∷ xs) h = let l = least_below priority x xs in omega arith
+read_below (Some priority) buffer h = (reads_take_first_least priority buffer (omega arith)).below
 
 -- one item leaves and one comes
 moved : (priority : Option (Mark → ℕ)) (buffer : List Mark) (item : Mark) → 1 ≤ length buffer → length (remove buffer (read_place priority buffer) ++ item ∷ []) ≡ length buffer
@@ -72,7 +61,7 @@ module _ (kind : Kind) (room : HasRoom kind.capacity) where
   good_answer count completion begins p r ws g =
       record {
         names = names_answer begins p r ws g.names;
-        settled = rw (answer_there p r ws) (each_answer (λ w. IsSettled kind count completion w.standing) p r (λ w h. tt) ws g.settled);
+        settled = rw (answer_there p r ws) (each_answer (λ w. IsSettled kind count completion w.standing) p r (λ w h is. tt) ws g.settled);
       }
 
   good_drop : (count : ℕ) (completion : Option ℕ) (begins : List ℕ) (p : Waiter → Bool) (ws : List Waiter) → Good kind count completion begins ws → Good kind count completion begins (remove ws (position_or_len p ws))
@@ -158,7 +147,7 @@ module _ (kind : Kind) (room : HasRoom kind.capacity) where
         simp (e1, at, e3) (overflow_step item kind.mode refl e3 (none_from s.completion e1) e2)
     written_step item false false false e1 e2 e3 =
         let at = position_none reads s.waits e2 in
-        simp (e1, at, e3) (refl, good_map (length s.buffer) s.completion s.completion (length (s.buffer ++ item ∷ [])) s.begins (answer_if looks_for_item (Ready true)) (λ w. IsStood w × (reads w ≡ false)) (if_caller looks_for_item (Ready true)) (if_number looks_for_item (Ready true)) (λ w h. kept_step (length (s.buffer ++ item ∷ [])) e3 w.caller w.number w.standing h) s.waits good (each_none IsStood reads s.waits e2 good.settled))
+        simp (e1, at, e3) (refl, good_map (length s.buffer) s.completion s.completion (length (s.buffer ++ item ∷ [])) s.begins (answer_if looks_for_item (Ready true)) (λ w. IsStood w × (reads w ≡ false)) (λ w. (told_if looks_for_item (Ready true) looks_found w).caller) (λ w. (told_if looks_for_item (Ready true) looks_found w).number) (λ w h. kept_step (length (s.buffer ++ item ∷ [])) e3 w.caller w.number w.standing h) s.waits good (each_none IsStood reads s.waits e2 good.settled))
 
     written_comes : (item : Mark) → Comes s (WantsRoom item) (written kind s item)
     written_comes item = written_step item (is_some s.completion) (some_of reads s.waits) (is_full kind.capacity (length s.buffer)) refl refl refl
@@ -189,7 +178,7 @@ module _ (kind : Kind) (room : HasRoom kind.capacity) where
         let at = position_none writes s.waits e2 in
         let some : 1 ≤ length s.buffer = leb-true 1 (length s.buffer) e1 in
         let count' = length (remove s.buffer (read_place kind.priority s.buffer)) in
-        simp (e1, at, e3) (refl, good_map (length s.buffer) s.completion s.completion count' s.begins (answer_if looks_for_room (Ready true)) (λ w. IsStood w × (writes w ≡ false)) (if_caller looks_for_room (Ready true)) (if_number looks_for_room (Ready true)) (λ w h. freed_step count' (omega arith) w.caller w.number w.standing h) s.waits good (each_none IsStood writes s.waits e2 good.settled))
+        simp (e1, at, e3) (refl, good_map (length s.buffer) s.completion s.completion count' s.begins (answer_if looks_for_room (Ready true)) (λ w. IsStood w × (writes w ≡ false)) (λ w. (told_if looks_for_room (Ready true) looks_freed w).caller) (λ w. (told_if looks_for_room (Ready true) looks_freed w).number) (λ w h. freed_step count' (omega arith) w.caller w.number w.standing h) s.waits good (each_none IsStood writes s.waits e2 good.settled))
     taken_step true false false done e1 e2 e3 e4 =
         let at = position_none writes s.waits e2 in
         let some : 1 ≤ length s.buffer = leb-true 1 (length s.buffer) e1 in
@@ -281,13 +270,7 @@ steps_stay kind s caller (Cancel number) room l was = cancel_step kind room s (g
 steps_stay kind s caller Peek room l was = peeked_step kind room s (good_of kind s was) was.callers (nat_le 1 (length s.buffer)) refl
 steps_stay kind s caller Count room l was = was
 steps_stay kind s caller Completed room l was = was
-steps_stay kind s caller (Enq item) room l was = tt
-steps_stay kind s caller Deq room l was = tt
-steps_stay kind s caller Snap room l was = tt
-steps_stay kind s caller (Add item) room l was = tt
-steps_stay kind s caller Take room l was = tt
-steps_stay kind s caller CompleteAdding room l was = tt
-steps_stay kind s caller AddingCompleted room l was = tt
+steps_stay kind s caller _ room l was = tt
 
 -- and so is the state before the first
 pub empty_is_reached : (kind : Kind) → IsReached kind empty_channel

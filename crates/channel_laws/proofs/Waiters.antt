@@ -6,7 +6,7 @@ use Rattle.std.proofs.lemmas.Bool.{and_parts, eqb-true, cases_eq}
 use Rattle.std.proofs.lemmas.List.{get_or-set_same, get_or-set_other}
 use Rattle.std.proofs.lemmas.List.Sums.{sum_by-cons, sum_by_push}
 use Rattle.ho_model.specs.declared.marks.ReplyMark.{ReplyMark}
-use Rattle.ho_model.specs.Channel.{Standing, Waiter, answered, answer_if, answer_at, is_wait}
+use Rattle.ho_model.specs.Channel.{Standing, Waiter, answered, answer_at, is_wait}
 use Rattle.channel_laws.proofs.Places.{some_of, drop_first, answer_first, answer_there, remove_there}
 
 -- 1. Facts of each, and counts
@@ -30,11 +30,11 @@ pub each_push : (P : Waiter → Type 0) (ws : List Waiter) (w : Waiter) → Each
 each_push P [] w h p = (p, tt)
 each_push P (v ∷ ws) w h p = (h.0, each_push P ws w h.1 p)
 
-each_answer_step : (P : Waiter → Type 0) (p : Waiter → Bool) (r : ReplyMark) (w : Waiter) (ws : List Waiter) (k : Bool) → p w ≡ k → P (answered w r) → P w × Each P ws → Each P (answer_first p r ws) → Each P (answer_first p r (w ∷ ws))
-each_answer_step P p r w ws true e a h more = simp e (a, h.1)
+each_answer_step : (P : Waiter → Type 0) (p : Waiter → Bool) (r : ReplyMark) (w : Waiter) (ws : List Waiter) (k : Bool) → p w ≡ k → (p w ≡ true → P (answered w r)) → P w × Each P ws → Each P (answer_first p r ws) → Each P (answer_first p r (w ∷ ws))
+each_answer_step P p r w ws true e a h more = simp e (a e, h.1)
 each_answer_step P p r w ws false e a h more = simp e (h.0, more)
 
-pub each_answer : (P : Waiter → Type 0) (p : Waiter → Bool) (r : ReplyMark) → ((w : Waiter) → P w → P (answered w r)) → (ws : List Waiter) → Each P ws → Each P (answer_first p r ws)
+pub each_answer : (P : Waiter → Type 0) (p : Waiter → Bool) (r : ReplyMark) → ((w : Waiter) → P w → p w ≡ true → P (answered w r)) → (ws : List Waiter) → Each P ws → Each P (answer_first p r ws)
 each_answer P p r a [] h = tt
 each_answer P p r a (w ∷ ws) h = each_answer_step P p r w ws (p w) refl (a w h.0) h (each_answer P p r a ws h.1)
 
@@ -101,20 +101,6 @@ raised begins d k l =
       | inr ne ↦ (let s : slice_index (slice_set begins d (slice_index begins d + 1)) k ≡ slice_index begins k = get_or-set_other begins d k (slice_index begins d + 1) 0 ne in omega arith)
     ]
 
-if_caller_step : (kind : Standing → Bool) (r : ReplyMark) (w : Waiter) (k : Bool) → kind w.standing ≡ k → (answer_if kind r w).caller ≡ w.caller
-if_caller_step kind r w true e = simp e refl
-if_caller_step kind r w false e = simp e refl
-
-pub if_caller : (kind : Standing → Bool) (r : ReplyMark) (w : Waiter) → (answer_if kind r w).caller ≡ w.caller
-if_caller kind r w = if_caller_step kind r w (kind w.standing) refl
-
-if_number_step : (kind : Standing → Bool) (r : ReplyMark) (w : Waiter) (k : Bool) → kind w.standing ≡ k → (answer_if kind r w).number ≡ w.number
-if_number_step kind r w true e = simp e refl
-if_number_step kind r w false e = simp e refl
-
-pub if_number : (kind : Standing → Bool) (r : ReplyMark) (w : Waiter) → (answer_if kind r w).number ≡ w.number
-if_number kind r w = if_number_step kind r w (kind w.standing) refl
-
 once_push : (begins : List ℕ) (d c n : ℕ) (standing : Standing) (ws : List Waiter) (k : Bool) → is_wait c n (record { caller = d; number = slice_index begins d; standing = standing }) ≡ k → Each (IsBelow begins) ws → count_by (is_wait c n) ws ≤ 1 → count_by (is_wait c n) (ws ++ record { caller = d; number = slice_index begins d; standing = standing } ∷ []) ≤ 1
 once_push begins d c n standing ws true e h l =
     let parts = and_parts (d == c) (slice_index begins d == n) e in
@@ -139,7 +125,7 @@ pub names_answer : (begins : List ℕ) (p : Waiter → Bool) (r : ReplyMark) (ws
 names_answer begins p r ws g =
     rw (answer_there p r ws) (record {
       once = λ c n. (let e = count_answer (is_wait c n) p r (λ w. refl) ws in let l = g.once c n in omega arith);
-      below = each_answer (IsBelow begins) p r (λ w h. h) ws g.below;
+      below = each_answer (IsBelow begins) p r (λ w h is. h) ws g.below;
     })
 
 pub names_drop : (begins : List ℕ) (p : Waiter → Bool) (ws : List Waiter) → HasNames begins ws → HasNames begins (remove ws (position_or_len p ws))

@@ -1,12 +1,12 @@
 -- A wait is answered in the kind of its begin.
-use Rattle.std.specs.Prelude.{◌≡◌, ℕ, List, [], ◌∷◌, Bool, true, false, not, ◌&&◌, ◌==◌, MatchBool}
+use Rattle.std.specs.Prelude.{◌≡◌, ℕ, Bool, true, false, not, ◌&&◌, ◌==◌}
 use Rattle.ho_base.specs.Marks.{Mark}
 use Rattle.ho_model.specs.declared.marks.CallMark.{CallMark}
 use Rattle.ho_model.specs.declared.marks.CallMark.TheVariants.{BeginWrite, BeginRead, BeginLookWrite, BeginLookRead, Poll, Cancel}
 use Rattle.ho_model.specs.declared.marks.ReplyMark.{ReplyMark}
 use Rattle.ho_model.specs.declared.marks.ReplyMark.TheVariants.{Done, Refused, Item, ClosedWith, Waiting, Ready, Faulted, Cancelled, CancelledWrite}
 use Rattle.ho_model.specs.declared.marks.EntryMark.{EntryMark}
-use Rattle.ho_model.specs.Channel.{Standing, WantsItem, WantsRoom, LooksForItem, LooksForRoom, Answered, Waiter, is_wait}
+use Rattle.ho_model.specs.Channel.{Standing, WantsItem, WantsRoom, LooksForItem, LooksForRoom, Answered}
 
 -- the answers of a wait for an item, of one for room for x, and of a look
 abbrev pub AnswersRead : ReplyMark → Type 0
@@ -44,11 +44,6 @@ IsInKind b (WantsRoom x) = b ≡ BeginWrite x
 IsInKind b LooksForItem = b ≡ BeginLookRead
 IsInKind b LooksForRoom = b ≡ BeginLookWrite
 IsInKind b (Answered r) = AnswersBegin b r
-
--- the wait of this name is there, and is in the kind of this begin
-abbrev pub StandsAs : CallMark → ℕ → ℕ → List Waiter → Type 0
-StandsAs b c n [] = ⊥
-StandsAs b c n (w ∷ ws) = MatchBool (is_wait c n w) (IsInKind b w.standing) (StandsAs b c n ws)
 
 abbrev pub is_waiting_reply : ReplyMark → Bool
 is_waiting_reply (Waiting number) = true

@@ -48,6 +48,10 @@ kind_in priority (object.Bounded capacity mode) = objects.bounded capacity mode
 kind_in priority object.Prioritized = objects.prioritized priority
 kind_in priority _ = objects.unbounded
 
--- the history of a channel object is legal, and the channel is in this state after it
+-- the history of a channel is legal, and leaves it in this state
+abbrev pub Leaves : (Mark → ℕ) → Object → List EntryMark → Channel → Type 0
+Leaves priority o history s = IsChannel o × (state_after priority o history ≡ Some (objects.ChannelState s))
+
+-- the same of a channel that has room for an item
 abbrev pub Reaches : (Mark → ℕ) → Object → List EntryMark → Channel → Type 0
 Reaches priority o history s = IsChannelObject o × (state_after priority o history ≡ Some (objects.ChannelState s))

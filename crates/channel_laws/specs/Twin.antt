@@ -1,11 +1,12 @@
 -- A channel beside its twin, which lacks one of its waits.
-use Rattle.std.specs.Prelude.{◌≡◌, ℕ, ◌⊎◌, List, [], ◌∷◌, Bool, true, false, not, filter, ◌&&◌, ◌||◌, ◌==◌, Option, Some, None}
+use Rattle.std.specs.Prelude.{◌≡◌, ℕ, ◌⊎◌, List, [], ◌∷◌, Bool, true, false, not, filter, ◌&&◌, ◌||◌, ◌==◌, Option, Some, None, if◌then◌else◌}
 use Rattle.ho_base.specs.Marks.{Mark}
 use Rattle.ho_model.specs.declared.marks.CallMark.{CallMark}
 use Rattle.ho_model.specs.declared.marks.ReplyMark.{ReplyMark}
 use Rattle.ho_model.specs.declared.marks.CallMark.TheVariants.{Poll, Cancel}
-use Rattle.ho_model.specs.declared.marks.ReplyMark.TheVariants.{Cancelled, CancelledWrite}
-use Rattle.ho_model.specs.Channel.{Waiter, Channel, Outcome, is_wait, is_waiting}
+use Rattle.ho_model.specs.declared.marks.ReplyMark.TheVariants.{Cancelled, CancelledWrite, Unknown}
+use Rattle.ho_model.specs.declared.marks.EntryMark.{EntryMark}
+use Rattle.ho_model.specs.Channel.{Standing, WantsRoom, Answered, Waiter, Channel, Outcome, is_wait, is_waiting}
 
 -- the waits but for the one of this name
 abbrev pub but_for : ℕ → ℕ → List Waiter → List Waiter
@@ -35,6 +36,20 @@ abbrev pub Follows : ℕ → ℕ → Option Outcome → Option Outcome → Type 
 Follows c n None other = other ≡ None
 Follows c n (Some o) other = (is_answered c n o.1.waits ≡ true) ⊎ ((is_open c n o.1.waits ≡ true) × (other ≡ Some (o.0, twin c n o.1)))
 
--- what a cancel of an unanswered wait says
+-- how the wait of this name stands
+abbrev pub standing_of : ℕ → ℕ → List Waiter → Standing
+standing_of c n [] = Answered Unknown
+standing_of c n (w ∷ ws) = if is_wait c n w then w.standing else standing_of c n ws
+
+-- what a cancel says that gives a wait up: a write's own item goes back
+abbrev pub given_up : Standing → ReplyMark
+given_up (WantsRoom item) = CancelledWrite item
+given_up _ = Cancelled
+
+-- the reply says that a wait is given up
 abbrev pub IsCancelReply : ReplyMark → Type 0
 IsCancelReply reply = (reply ≡ Cancelled) ⊎ ((item : Mark) × (reply ≡ CancelledWrite item))
+
+-- entries but for the polls and cancels of one wait
+abbrev pub others_of : ℕ → ℕ → List EntryMark → List EntryMark
+others_of c n entries = filter (λ e. not (is_of_wait c n e.caller e.call)) entries

@@ -1,6 +1,6 @@
 // What passes through the structures.
-ghost use Rattle.std.specs.Prelude.{◌≡◌, ℕ, ◌/◌, ◌∷◌, [], Some, slice_get};
-ghost use Rattle.ho_base.specs.Marks.{Mark, number_of};
+ghost use Rattle.std.specs.Prelude.{◌≡◌, ℕ, ◌∷◌, [], Some, slice_get};
+ghost use Rattle.ho_base.specs.Marks.{Mark, number_priority};
 
 /// What passes through a channel, a bag or a blocking collection.
 pub trait Item: Send + Drop {
@@ -25,7 +25,7 @@ const NUMBERS_PER_PRIORITY: u64 = 1000;
 impl Item for u64 {
     ghost mark = { λ n. n ∷ [] };
 
-    ghost priority_of = { λ mark. number_of mark / 1000 };
+    ghost priority_of = { number_priority };
 
     fn number(&self) -> u64 {
         *self

@@ -6,7 +6,7 @@ use Rattle.ho_model.specs.declared.objects.Object.{Object}
 use Rattle.ho_model.specs.Entries.{EntryMark}
 use Rattle.ho_model.specs.Objects.{State, empty_state, object_step}
 use Rattle.ho_model.specs.Histories.{fold_from, state_after, IsLegal}
-use Rattle.ho_model.specs.Tallies.{Tally, tally_next, tally_from}
+use Rattle.ho_model.specs.Tallies.{Tally, no_tally, tally_next, tally_from, tally_of}
 
 and_some : {A : Type 0} (x : Option A) → option_and_then (λ n. Some n) x ≡ x
 and_some None = refl
@@ -50,3 +50,7 @@ legal_last priority o h e l =
 pub tally-append : (t : Tally) (es fs : List EntryMark) → tally_from t (es ++ fs) ≡ tally_from (tally_from t es) fs
 tally-append t [] fs = refl
 tally-append t (e ∷ es) fs = tally-append (tally_next t e.call e.reply) es fs
+
+-- one entry more
+pub tally_push : (h : List EntryMark) (e : EntryMark) → tally_of (h ++ e ∷ []) ≡ tally_next (tally_of h) e.call e.reply
+tally_push h e = tally-append no_tally h (e ∷ [])

@@ -1,3 +1,14 @@
 pub mod Folds
 pub mod Replies
 pub mod Standing
+pub mod Lists
+pub mod Enqueues
+pub mod Queues
+pub mod QueueLaws
+pub mod Written
+pub mod Judging
+pub mod Marked
+pub mod Played
+pub mod Listed
+pub mod Least
+pub mod Waiting

@@ -1,6 +1,6 @@
 -- An object accepts its own answer, and no other.
 use Rattle.std.proofs.Common.{◌≡◌, refl, sym, ap, ◌∙◌, ℕ, ◌<◌, arith}
-use Rattle.std.specs.Prelude.{Bool, true, false, ◌&&◌, ◌==◌, Option, Some, None, nat_lt, if◌then◌else◌}
+use Rattle.std.specs.Prelude.{Bool, true, false, ◌&&◌, ◌==◌, List, Option, Some, None, nat_lt, if◌then◌else◌}
 use Rattle.std.specs.Option.{option_map}
 use Rattle.std.specs.Str.{bytes_eq}
 use Rattle.std.proofs.lemmas.Bool.{and_parts, eqb-true, ltb-true}
@@ -11,7 +11,8 @@ use Rattle.ho_model.specs.declared.objects.Object.{Object}
 use Rattle.ho_model.specs.Entries.{CallMark, ReplyMark, EntryMark, entry, Parts, parts_of, same_parts, same_reply, Done, Dropped, Full, Refused, Item, ItemFrom, Shown, Empty, Ended, Closed, ClosedWith, Counted, Numbers, Waiting, Ready, Faulted, Cancelled, CancelledWrite, Unknown, Flag}
 use Rattle.ho_model.specs.Answers.{accepted}
 use Rattle.ho_model.specs.Channel.{Channel, Kind, channel_answer}
-use Rattle.ho_model.specs.Objects.{State, ChannelState, channel_step, stepped, object_step, most_callers}
+use Rattle.ho_model.specs.Queue.{queue_answer}
+use Rattle.ho_model.specs.Objects.{State, QueueState, ChannelState, queue_step, channel_step, stepped, object_step, most_callers}
 
 pub same_reply_refl : (r : ReplyMark) → same_reply r r ≡ true
 same_reply_refl r =
@@ -23,6 +24,10 @@ accepted_self answer r s h = rw (h, same_reply_refl r)
 -- what a channel answers is an entry of it
 pub channel_entry : (kind : Kind) (s t : Channel) (caller : ℕ) (call : CallMark) (reply : ReplyMark) → channel_answer kind s caller call ≡ Some (reply, t) → channel_step kind (ChannelState s) (entry caller call reply) ≡ Some (ChannelState t)
 channel_entry kind s t caller call reply h = ap (option_map ChannelState) (accepted_self _ reply t h)
+
+-- what a queue answers is an entry of it
+pub queue_entry : (room : ℕ) (items after : List Mark) (e : EntryMark) → queue_answer room items e.call ≡ Some (e.reply, after) → queue_step room (QueueState items) e ≡ Some (QueueState after)
+queue_entry room items after e h = ap (option_map QueueState) (accepted_self _ e.reply after h)
 
 -- an entry of a caller that an object can have
 pub entry_of_caller : (priority : Mark → ℕ) (o : Object) (s t : State) (e : EntryMark) → e.caller < most_callers → stepped priority o s e ≡ Some t → object_step priority o s e ≡ Some t
@@ -109,6 +114,12 @@ pub channel_entry_is : (kind : Kind) (s : Channel) (e : EntryMark) (t : State) �
 channel_entry_is kind s e t h =
     let by = map_some ChannelState (accepted (channel_answer kind s e.caller e.call) e.reply) t h in
     (by.0, by.1, accepted_is (channel_answer kind s e.caller e.call) e.reply by.0 by.2)
+
+-- an entry of a queue has the queue's own answer
+pub queue_entry_is : (room : ℕ) (items : List Mark) (e : EntryMark) (t : State) → queue_step room (QueueState items) e ≡ Some t → (x : List Mark) × (t ≡ QueueState x) × (◌≡◌ {A = Option (ReplyMark × List Mark)} (queue_answer room items e.call) (Some (e.reply, x)))
+queue_entry_is room items e t h =
+    let by = map_some QueueState (accepted (queue_answer room items e.call) e.reply) t h in
+    (by.0, by.1, accepted_is (queue_answer room items e.call) e.reply by.0 by.2)
 
 caller_step : (after : Option State) (t : State) (c : ℕ) (k : Bool) → nat_lt c most_callers ≡ k → (if k then after else None) ≡ Some t → (c < most_callers) × (after ≡ Some t)
 caller_step after t c true e h = (ltb-true c most_callers e, h)

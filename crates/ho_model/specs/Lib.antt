@@ -6,5 +6,18 @@ pub mod Channel
 pub mod Blocking
 pub mod Objects
 pub mod Tallies
+pub mod Enqueues
 pub mod Histories
+pub mod QueueReplies
+pub mod QueueReceipts
+pub mod QueueLaws
+pub mod Written
+pub mod WrittenLaws
 pub mod Rows
+pub mod Verdicts
+pub mod Judging
+pub mod Waits
+pub mod Tries
+pub mod Evaluated
+-- what the clauses cite of the crate below
+pub use Rattle.ho_base.specs.Marks

@@ -1,0 +1,7 @@
+use Rattle.std.proofs.Common.{refl}
+use Rattle.ho_model.specs.Channel as channel
+use Rattle.ho_model.specs.Tries.{kind_of}
+use Rattle.ho_model.proofs.replays.channel.Channel.begin_look_for_room.Goals as goal
+
+pub returns : goal.returns
+returns c = c.begin.ensures c.args.self.now (channel.looked_write (kind_of c.args.kind) c.args.self.now) refl c.look_for_room-tried.ensures
