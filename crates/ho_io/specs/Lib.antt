@@ -1,4 +1,4 @@
-pub mod Causes
+pub mod Counts
 pub mod Pieces
 pub mod Whole
 pub mod Memory

@@ -60,9 +60,15 @@ fn a_fetch_fails_where_it_was_told_to(rt: HostRuntime) -> Result<(), Fail> {
         let (answer, _) = shown(&loaded);
         assert_eq!(rt; answer, word, "at call {call}");
     }
-    let mut shelf = shelf_failing_at(alloc, 0)?;
+    // A name that is not there is missing, also at a call that is to fail, and that call is counted.
     let other = Word::new(alloc, b"g")?;
-    assert!(rt; matches!(fetch_whole(alloc, &mut shelf, &other, 100), Loaded::Missing));
+    for (call, word) in [(0, "whole"), (1, "failed"), (2, "failed")] {
+        let mut shelf = shelf_failing_at(alloc, call)?;
+        assert!(rt; matches!(fetch_whole(alloc, &mut shelf, &other, 100), Loaded::Missing));
+        let loaded = fetch_whole(alloc, &mut shelf, &name, 100);
+        let (answer, _) = shown(&loaded);
+        assert_eq!(rt; answer, word, "at call {call}");
+    }
     Ok(())
 }
 
@@ -92,6 +98,12 @@ fn a_text_is_put_whole(rt: HostRuntime) {
         assert_eq!(rt; put_whole(&mut sink, TEXT), Written::Whole);
         assert_eq!(rt; sink.taken(), TEXT);
     }
+}
+
+#[test]
+fn an_open_gate_stops_nobody_and_a_terminal_has_room(rt: HostRuntime) {
+    OpenGate.at(&rt, 0, 0);
+    assert!(rt; TerminalSink::new(&rt).reserve(TEXT.len()).is_ok());
 }
 
 #[test]

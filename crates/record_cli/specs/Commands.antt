@@ -51,3 +51,9 @@ waits_for (Some Run) = true
 waits_for (Some Drive) = true
 waits_for (Some Made) = true
 waits_for other = false
+
+-- whether a command is not built yet
+abbrev pub is_unbuilt : Option Command → Bool
+is_unbuilt None = false
+is_unbuilt (Some Plain) = false
+is_unbuilt (Some other) = true

@@ -1,5 +1,6 @@
 -- The numbers of the statuses.
 use Rattle.std.specs.Prelude.{ℕ, Bool, true, false}
+use Rattle.ho_io.specs.Counts.{counted}
 use Rattle.record_cli.specs.declared.status.Status.{Status}
 use Rattle.record_cli.specs.declared.status.Status.TheVariants as status
 
@@ -22,3 +23,13 @@ is_written status.ReadFault = false
 is_written status.WriteFault = false
 is_written status.NoMemory = false
 is_written other = true
+
+-- how many fetches failed, after a command with this status: one more at a read fault, else none
+abbrev pub read_faults : ℕ → Status → ℕ
+read_faults before status.ReadFault = counted before 1
+read_faults before other = before
+
+-- how many puts failed, after a command with this status: one more at a write fault, else none
+abbrev pub write_faults : ℕ → Status → ℕ
+write_faults before status.WriteFault = counted before 1
+write_faults before other = before

@@ -1,6 +1,6 @@
 // What a command answers, before anything is written.
 ghost use Rattle.std.specs.Prelude.{◌≡◌, ◌∷◌, [], map, IsTrue};
-ghost use Rattle.record_lang.specs.Output.{HasWord, line_of};
+ghost use Rattle.text_rows.specs.Written.{HasWord, text_of_row};
 ghost use Rattle.record_cli.specs.Answers.{IsComputed};
 ghost use Rattle.record_cli.specs.Plain.{missing, not_built, refused_place, refused_row, too_large, usage};
 ghost use Rattle.record_cli.specs.Statuses.{is_written};
@@ -9,8 +9,8 @@ use crate::answer::Answer;
 use crate::status::Status;
 use ho_base::Word;
 use itoa::Buffer;
-use record_lang::row_line;
 use std::alloc::Global;
+use text_rows::row_line;
 
 /// What came of a command before anything is written.
 #[derive(Drop)]
@@ -24,7 +24,7 @@ pub(crate) enum Computed {
 fn one_row(alloc: Global, status: Status, fields: &[&[u8]]) -> Computed
     requires status { IsTrue (is_written status) }
     requires word { HasWord (map (λ f. f.now) fields.now) }
-    ensures computed { IsComputed (record { status = status; text = line_of (map (λ f. f.now) fields.now) }) result }
+    ensures computed { IsComputed (record { status = status; text = text_of_row (map (λ f. f.now) fields.now) }) result }
     ensures unread { result ≡ Computed.ReadFault → ⊥ }
 {
     match row_line(alloc, fields) {

@@ -1,10 +1,15 @@
 //! The program: takes the words of the command line, runs the command that they name over real files
 //! and standard output, and exits with the number of its status.
 //!
-//! [`top::run_plain`] is the top call. Over any shelf and sink it promises the exact bytes and status
-//! for the words and files, and which faults there were; `docs/FORMATS.md` tells commands, statuses and
-//! texts. The crate stands on `record_lang` for what a pipeline and records mean, and on `ho_io` for
-//! files and output.
+//! [`top::run_plain`] is the top call. It promises the exact bytes and status for the words and files,
+//! where shelf and sink tell them. Over any shelf and sink it promises how much is read and written at
+//! most, that at most one fetch a file gives no byte, that room is asked for once, for the whole text,
+//! that each fault is told by its status and no other status comes with one, and that nothing is written
+//! after a read fault or want of memory. Where the shelf tells its files, a read fault is of the
+//! pipeline's file, or of the record file after a pipeline that is not refused. `docs/FORMATS.md` tells
+//! commands, statuses and texts.
+//! The crate stands on `record_lang` for what a pipeline and records mean, on `text_rows` for rows as
+//! they are written, on `ho_io` for files and output, and on `ho_base` for words.
 //!
 //! No contract can say which words the system gives: `take_words` promises nothing, and the stored run
 //! shows that it takes them.

@@ -1,8 +1,8 @@
 // The command `plain`: a pipeline's file and a record file become the one-thread text.
-ghost use Rattle.std.specs.Prelude.{◌≡◌, ◌≤◌, length, IfSome, Some};
-ghost use Rattle.ho_io.specs.Causes.{Rose};
-ghost use Rattle.record_cli.specs.Answers.{IsComputed};
-ghost use Rattle.record_cli.specs.Plain.{pipe_answer, plain_answer, records_answer, text_answer};
+ghost use Rattle.std.specs.Prelude.{◌≡◌, ◌≤◌, ◌+◌, length, IfSome, IsSome, IsTrue, Some, if◌then◌else◌};
+ghost use Rattle.ho_io.specs.Whole.{bytes_within};
+ghost use Rattle.record_cli.specs.Answers.{IsComputed, computed_faults};
+ghost use Rattle.record_cli.specs.Plain.{PlainFailed, is_read, pipe_answer, plain_answer, plain_given, plain_idle, records_answer, text_answer};
 
 use crate::answer::Answer;
 use crate::computed::{Computed, missing, refused_place, refused_row, too_large};
@@ -58,8 +58,13 @@ fn with_pipeline<S: Shelf>(
     file: &Word,
 ) -> Computed
     ensures computed { IfSome (S.files shelf.old) (λ files. IsComputed (records_answer file.now pipeline.now (files file.now)) result) }
+    ensures files { S.files shelf.new ≡ S.files shelf.old }
+    ensures bounded { S.given shelf.new ≤ S.given shelf.old + 16777217 }
+    ensures given { IfSome (S.files shelf.old) (λ files. S.given shelf.new ≤ S.given shelf.old + bytes_within 16777216 (files file.now)) }
+    ensures idle { S.idle shelf.new ≤ S.idle shelf.old + 1 }
+    ensures failing { IfSome (S.files shelf.old) (λ files. result ≡ Computed.ReadFault → (S.failing shelf.new ≡ Some file.now) × IsSome (files file.now)) }
     ensures later { S.faults shelf.old ≤ S.faults shelf.new }
-    ensures failed { result ≡ Computed.ReadFault → Rose (S.faults shelf.old) (S.faults shelf.new) }
+    ensures faults { S.faults shelf.new ≡ computed_faults (S.faults shelf.old) result }
 {
     match fetch_whole(alloc, shelf, file, MAX_RECORDS) {
         Loaded::Whole(bytes) => with_records(alloc, pipeline, file, &bytes),
@@ -80,8 +85,13 @@ fn with_text<S: Shelf>(
 ) -> Computed
     requires { length text.now ≤ 65536 }
     ensures computed { IfSome (S.files shelf.old) (λ files. IsComputed (pipe_answer pipe.now file.now (Some text.now) (files file.now)) result) }
+    ensures files { S.files shelf.new ≡ S.files shelf.old }
+    ensures bounded { S.given shelf.new ≤ S.given shelf.old + 16777217 }
+    ensures given { IfSome (S.files shelf.old) (λ files. S.given shelf.new ≤ S.given shelf.old + (if is_read text.now then bytes_within 16777216 (files file.now) else 0)) }
+    ensures idle { S.idle shelf.new ≤ S.idle shelf.old + (if is_read text.now then 1 else 0) }
+    ensures failing { IfSome (S.files shelf.old) (λ files. result ≡ Computed.ReadFault → (S.failing shelf.new ≡ Some file.now) × IsSome (files file.now) × IsTrue (is_read text.now)) }
     ensures later { S.faults shelf.old ≤ S.faults shelf.new }
-    ensures failed { result ≡ Computed.ReadFault → Rose (S.faults shelf.old) (S.faults shelf.new) }
+    ensures faults { S.faults shelf.new ≡ computed_faults (S.faults shelf.old) result }
 {
     match parse_pipeline(alloc, text) {
         Ok(pipeline) => with_pipeline(alloc, shelf, &pipeline, file),
@@ -90,11 +100,18 @@ fn with_text<S: Shelf>(
     }
 }
 
-/// What `plain PIPE FILE` answers. The record file is fetched only once the pipeline is read.
+/// What `plain PIPE FILE` answers. The record file is fetched only once the pipeline is read and not
+/// refused.
 pub(crate) fn plain<S: Shelf>(alloc: Global, shelf: &mut S, pipe: &Word, file: &Word) -> Computed
     ensures computed { IfSome (S.files shelf.old) (λ files. IsComputed (plain_answer files pipe.now file.now) result) }
+    ensures files { S.files shelf.new ≡ S.files shelf.old }
+    ensures bounded { S.given shelf.new ≤ S.given shelf.old + 65537 + 16777217 }
+    ensures given { IfSome (S.files shelf.old) (λ files. S.given shelf.new ≤ S.given shelf.old + plain_given files pipe.now file.now) }
+    ensures idle_bounded { S.idle shelf.new ≤ S.idle shelf.old + 2 }
+    ensures idle { IfSome (S.files shelf.old) (λ files. S.idle shelf.new ≤ S.idle shelf.old + plain_idle files pipe.now) }
+    ensures in_turn { IfSome (S.files shelf.old) (λ files. result ≡ Computed.ReadFault → PlainFailed files pipe.now file.now (S.failing shelf.new)) }
     ensures later { S.faults shelf.old ≤ S.faults shelf.new }
-    ensures failed { result ≡ Computed.ReadFault → Rose (S.faults shelf.old) (S.faults shelf.new) }
+    ensures faults { S.faults shelf.new ≡ computed_faults (S.faults shelf.old) result }
 {
     match fetch_whole(alloc, shelf, pipe, MAX_PIPELINE) {
         Loaded::Whole(text) => with_text(alloc, shelf, pipe, &text, file),

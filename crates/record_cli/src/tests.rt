@@ -10,6 +10,8 @@ use std::test::Fail;
 
 const PIPELINE: &[u8] = b"stage keep 1 ge 10\nstage add 1 5\n";
 
+const ONE_STAGE: &[u8] = b"stage keep 0 ge 0\n";
+
 const RECORDS: &[u8] = b"ann,12\nbob,x\ncyd,7\n";
 
 const TEXT: &[u8] = b"result,0,ann,17\nrefused,1,1,2\ncounts,3,1,1,1\nending,done\n";
@@ -31,11 +33,12 @@ fn shelf_of(alloc: Global, pipe: &[u8], records: &[u8]) -> Result<FreeShelf, NoM
     Ok(shelf)
 }
 
-// The same, of whose fetches one fails.
-fn failing_shelf(alloc: Global, call: u64) -> Result<MemShelf, NoMemory> {
+// A shelf with these files, of whose fetches one fails.
+fn failing_shelf(alloc: Global, files: &[(&[u8], &[u8])], call: u64) -> Result<MemShelf, NoMemory> {
     let mut shelf = MemShelf::new(alloc);
-    shelf.add(Word::new(alloc, b"p")?, PIPELINE)?;
-    shelf.add(Word::new(alloc, b"f")?, RECORDS)?;
+    for (name, bytes) in files {
+        shelf.add(Word::new(alloc, name)?, bytes)?;
+    }
     shelf.fail_at(call)?;
     Ok(shelf)
 }
@@ -53,7 +56,7 @@ fn plain(alloc: Global, pipe: &[u8], records: &[u8]) -> Result<(Status, Vec<u8>)
 fn pipelines_and_records_give_their_text(rt: HostRuntime) -> Result<(), Fail> {
     let table: [(&[u8], &[u8], Status, &[u8]); 13] = [
         (
-            b"stage keep 0 ge 0\n",
+            ONE_STAGE,
             b"",
             Status::Done,
             b"counts,0,0,0,0\nending,done\n",
@@ -260,7 +263,7 @@ fn a_failed_fetch_writes_nothing(rt: HostRuntime) -> Result<(), Fail> {
     let words = words_of(alloc, &[b"plain", b"p", b"f"])?;
     // Each file takes one fetch for its bytes and one that finds its end.
     for call in 0..5 {
-        let mut shelf = failing_shelf(alloc, call)?;
+        let mut shelf = failing_shelf(alloc, &[(b"p", PIPELINE), (b"f", RECORDS)], call)?;
         let mut out = FreeSink::new(alloc, 64);
         let status = run_plain(alloc, &words, &mut shelf, &mut out);
         let (want, text) = if call < 4 {
@@ -271,6 +274,48 @@ fn a_failed_fetch_writes_nothing(rt: HostRuntime) -> Result<(), Fail> {
         assert_eq!(rt; status, want, "at fetch {call}");
         assert_eq!(rt; out.taken(), text, "at fetch {call}");
     }
+    Ok(())
+}
+
+#[test]
+fn the_first_file_is_judged_before_the_second_is_fetched(rt: HostRuntime) -> Result<(), Fail> {
+    let alloc = rt.alloc();
+    let words = words_of(alloc, &[b"plain", b"p", b"f"])?;
+    let table: [(&[(&[u8], &[u8])], u64, Status, &[u8]); 5] = [
+        (&[(b"p", ONE_STAGE), (b"f", b"")], 0, Status::ReadFault, b""),
+        (&[(b"f", RECORDS)], 0, Status::Missing, b"missing,p\n"),
+        (
+            &[(b"p", b"stage cut\n"), (b"f", RECORDS)],
+            2,
+            Status::SpecRefused,
+            b"spec,p,0,3\n",
+        ),
+        (&[(b"p", PIPELINE)], 2, Status::Missing, b"missing,f\n"),
+        (&[(b"p", PIPELINE)], 9, Status::Missing, b"missing,f\n"),
+    ];
+    for (files, call, status, text) in table {
+        let mut shelf = failing_shelf(alloc, files, call)?;
+        let mut out = FreeSink::new(alloc, 64);
+        assert_eq!(rt;
+            run_plain(alloc, &words, &mut shelf, &mut out),
+            status,
+            "at fetch {call}"
+        );
+        assert_eq!(rt; out.taken(), text, "at fetch {call}");
+    }
+    Ok(())
+}
+
+#[test]
+fn a_second_put_that_fails_leaves_the_first_piece(rt: HostRuntime) -> Result<(), Fail> {
+    let alloc = rt.alloc();
+    let words = words_of(alloc, &[b"plain", b"p", b"f"])?;
+    let mut shelf = shelf_of(alloc, ONE_STAGE, b"")?;
+    let mut out = MemSink::new(alloc, 8);
+    out.fail_at(1)?;
+    let status = run_plain(alloc, &words, &mut shelf, &mut out);
+    assert_eq!(rt; status, Status::WriteFault);
+    assert_eq!(rt; out.taken(), b"counts,0".as_slice());
     Ok(())
 }
 

@@ -1,10 +1,10 @@
 // The top call: all that the program does.
-ghost use Rattle.std.specs.Prelude.{◌≡◌, ◌≤◌, ◌≢◌, length, IfSome, IsTrue, None, Some};
-ghost use Rattle.ho_io.specs.Causes.{Rose};
-ghost use Rattle.record_cli.specs.Answers.{IsAnswered, IsComplete, IsComputed, words_answer};
-ghost use Rattle.record_cli.specs.Commands.{command_of};
-ghost use Rattle.record_cli.specs.Plain.{not_built, usage};
-ghost use Rattle.record_cli.specs.Statuses.{is_written};
+ghost use Rattle.std.specs.Prelude.{◌≡◌, ◌≤◌, ◌≢◌, ◌+◌, length, IfSome, IsTrue, None, Some};
+ghost use Rattle.ho_io.specs.Counts.{Rose};
+ghost use Rattle.record_cli.specs.Answers.{FailedInTurn, HasAsked, IsAnswered, IsComplete, IsComputed, computed_faults, words_answer, words_given, words_idle};
+ghost use Rattle.record_cli.specs.Commands.{command_of, is_unbuilt};
+ghost use Rattle.record_cli.specs.Plain.{Answer, not_built, usage};
+ghost use Rattle.record_cli.specs.Statuses.{is_written, read_faults, write_faults};
 ghost use Rattle.record_cli.specs.declared.commands.Command.TheVariants.{Plain};
 
 use crate::commands::{Command, command_of};
@@ -19,9 +19,16 @@ use std::alloc::Global;
 fn compute<S: Shelf>(alloc: Global, words: &[Word], shelf: &mut S) -> Computed
     ensures computed { IfSome (S.files shelf.old) (λ files. IsComputed (words_answer files words.now) result) }
     ensures usage { command_of words.now ≡ None → IsComputed usage result }
+    ensures not_built { IsTrue (is_unbuilt (command_of words.now)) → IsComputed not_built result }
     ensures not_read { command_of words.now ≢ Some Plain → shelf.new ≡ shelf.old }
+    ensures files { S.files shelf.new ≡ S.files shelf.old }
+    ensures bounded { S.given shelf.new ≤ S.given shelf.old + 65537 + 16777217 }
+    ensures given { IfSome (S.files shelf.old) (λ files. S.given shelf.new ≤ S.given shelf.old + words_given files words.now) }
+    ensures idle_bounded { S.idle shelf.new ≤ S.idle shelf.old + 2 }
+    ensures idle { IfSome (S.files shelf.old) (λ files. S.idle shelf.new ≤ S.idle shelf.old + words_idle files words.now) }
+    ensures in_turn { IfSome (S.files shelf.old) (λ files. result ≡ Computed.ReadFault → FailedInTurn files words.now (S.failing shelf.new)) }
     ensures later { S.faults shelf.old ≤ S.faults shelf.new }
-    ensures failed { result ≡ Computed.ReadFault → Rose (S.faults shelf.old) (S.faults shelf.new) }
+    ensures faults { S.faults shelf.new ≡ computed_faults (S.faults shelf.old) result }
 {
     match (command_of(words), words) {
         (Some(Command::Plain), [_, pipe, file]) => plain(alloc, shelf, pipe, file),
@@ -35,7 +42,11 @@ fn write<K: Sink>(out: &mut K, status: Status, text: &[u8]) -> Status
     requires { IsTrue (is_written status) }
     ensures written { IsAnswered (record { status = status; text = text.now }) (K.taken out.old) (K.taken out.new) result }
     ensures read { result ≡ Status.ReadFault → ⊥ }
-    ensures failed { result ≡ Status.WriteFault → Rose (K.faults out.old) (K.faults out.new) }
+    ensures puts { K.puts out.new ≤ K.puts out.old + length text.now }
+    ensures asked { HasAsked (record { status = status; text = text.now }) (K.reserves out.old) (K.reserves out.new) (K.asked out.new) result }
+    ensures refused { result ≡ Status.NoMemory → K.puts out.new ≡ K.puts out.old }
+    ensures later { K.faults out.old ≤ K.faults out.new }
+    ensures faults { K.faults out.new ≡ write_faults (K.faults out.old) result }
 {
     if out.reserve(text.len()).is_err() {
         return Status::NoMemory;
@@ -52,6 +63,9 @@ fn write<K: Sink>(out: &mut K, status: Status, text: &[u8]) -> Status
 /// sink has taken the answer's whole text, or a front of it where a put failed, or nothing where a
 /// fetch failed or there was no memory. What the answer is for the words and files, `words_answer`
 /// defines; it speaks of files where the shelf tells them, and of bytes taken where the sink does.
+///
+/// The record file is read only once the pipeline is read and not refused. Of a file at most one byte
+/// more than its limit is read. The first fetch or put that fails ends the call with its status.
 pub fn run_plain<S: Shelf, K: Sink>(
     alloc: Global,
     words: &[Word],
@@ -61,13 +75,49 @@ pub fn run_plain<S: Shelf, K: Sink>(
     ensures answered { IfSome (S.files shelf.old) (λ files.
         IsAnswered (words_answer files words.now) (K.taken out.old) (K.taken out.new) result) }
 
-    // Words that have no form of a command need no file.
+    // The same without files: for words that have no form of a command, for commands that are not
+    // built, and for some answer over every shelf, also one that tells nothing.
     ensures usage { command_of words.now ≡ None
         → IsAnswered usage (K.taken out.old) (K.taken out.new) result }
-    ensures not_read { command_of words.now ≢ Some Plain → shelf.new ≡ shelf.old }
+    ensures not_built { IsTrue (is_unbuilt (command_of words.now))
+        → IsAnswered not_built (K.taken out.old) (K.taken out.new) result }
+    ensures written { (answer : Answer) × IsAnswered answer (K.taken out.old) (K.taken out.new) result
+        × (K.puts out.new ≤ K.puts out.old + length answer.text)
+        × HasAsked answer (K.reserves out.old) (K.reserves out.new) (K.asked out.new) result }
 
-    ensures read_fault { result ≡ Status.ReadFault → Rose (S.faults shelf.old) (S.faults shelf.new) }
-    ensures write_fault { result ≡ Status.WriteFault → Rose (K.faults out.old) (K.faults out.new) }
+    // The sink is asked for room once, for the whole text.
+    ensures asked { IfSome (S.files shelf.old) (λ files.
+        HasAsked (words_answer files words.now) (K.reserves out.old) (K.reserves out.new) (K.asked out.new) result) }
+
+    // There is at most one put for each byte of the text, and none where nothing is written.
+    ensures puts { IfSome (S.files shelf.old) (λ files.
+        K.puts out.new ≤ K.puts out.old + length (words_answer files words.now).text) }
+    ensures unread { result ≡ Status.ReadFault → out.new ≡ out.old }
+    ensures unwritten { result ≡ Status.NoMemory → K.puts out.new ≡ K.puts out.old }
+
+    // What is read: the record file only where the pipeline is there and not refused.
+    ensures not_read { command_of words.now ≢ Some Plain → shelf.new ≡ shelf.old }
+    ensures files { S.files shelf.new ≡ S.files shelf.old }
+    ensures bounded { S.given shelf.new ≤ S.given shelf.old + 65537 + 16777217 }
+    ensures given { IfSome (S.files shelf.old) (λ files.
+        S.given shelf.new ≤ S.given shelf.old + words_given files words.now) }
+
+    // At most one fetch a file gives no byte, as at its end.
+    ensures idle_bounded { S.idle shelf.new ≤ S.idle shelf.old + 2 }
+    ensures idle { IfSome (S.files shelf.old) (λ files.
+        S.idle shelf.new ≤ S.idle shelf.old + words_idle files words.now) }
+
+    // Exactly one fetch failed at a read fault, and none at any other status. It was in turn: of the
+    // pipeline's file, which is there, or of the record file, which is there too, and the pipeline is there
+    // and not refused.
+    ensures read_later { S.faults shelf.old ≤ S.faults shelf.new }
+    ensures read_faults { S.faults shelf.new ≡ read_faults (S.faults shelf.old) result }
+    ensures read_fault { IfSome (S.files shelf.old) (λ files.
+        result ≡ Status.ReadFault → FailedInTurn files words.now (S.failing shelf.new)) }
+
+    // Exactly one put failed at a write fault, and none at any other status.
+    ensures write_later { K.faults out.old ≤ K.faults out.new }
+    ensures write_faults { K.faults out.new ≡ write_faults (K.faults out.old) result }
 
     // With no rise of either count of faults the text is written whole, or there was no memory.
     ensures complete { IfSome (S.files shelf.old) (λ files.

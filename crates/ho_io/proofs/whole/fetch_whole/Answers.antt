@@ -15,5 +15,8 @@ pieces-preserved g c =
       files = c.fetch.ensures.files ∙ c.pieces.invariant.files;
       within = rw (items, length-append, length-take) (grind (arith, common_steps));
       so_far = told_more _ (g.S.Shelf.files c.pieces.shelf) c.args.name.now c.pieces.bytes.items _ c.fetch.new.buf c.len-at.result c.in-Bytes.count c.pieces.invariant.files c.pieces.invariant.so_far c.in-Bytes.ensures.piece here fits items;
-      later = omega arith;
+      given = rw (items, length-append, length-take) (grind (arith, common_steps));
+      idle = search rules;
+      faults = search rules;
+      failing = search rules;
     }
