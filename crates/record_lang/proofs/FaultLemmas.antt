@@ -3,12 +3,10 @@ use Rattle.std.proofs.Common.{◌≡◌, ◌≢◌, ◌+◌, ◌++◌, ◌∙◌
 use Rattle.std.proofs.lemmas.List.{length-map}
 use Rattle.std.proofs.lemmas.Bool.Decides.{nat_tests}
 use Rattle.record_lang.specs.Records.{Row}
-use Rattle.record_lang.specs.Rows.{fault_from, fields_in, numbered_from, refused_or, row_cause, row_cause_number, row_fault, width_of}
-use Rattle.record_lang.specs.declared.rows.InputFault.{InputFault}
-use Rattle.record_lang.specs.declared.rows.InputFault.TheVariants.{Refused, TooManyRows}
+use Rattle.record_lang.specs.Rows.{RowsRefusal, RefusedRow, RowTooMany, fault_from, fields_in, numbered_from, refused_or, row_cause, row_cause_number, row_fault, width_of}
 use Rattle.record_lang.specs.declared.rows.RowCause.{RowCause}
 
-past-step : (b : Bool) (i : ℕ) (c : Option RowCause) (x y z : Option InputFault) → (if b then Some TooManyRows else refused_or i c x) ≡ None → (x ≡ None → y ≡ z) → (if b then Some TooManyRows else refused_or i c y) ≡ z
+past-step : (b : Bool) (i : ℕ) (c : Option RowCause) (x y z : Option RowsRefusal) → (if b then Some RowTooMany else refused_or i c x) ≡ None → (x ≡ None → y ≡ z) → (if b then Some RowTooMany else refused_or i c y) ≡ z
 past-step true i c x y z h f = cc
 past-step false i None x y z h f = f h
 past-step false i (Some c) x y z h f = cc
@@ -54,16 +52,16 @@ numbered_more records fields h =
     ∙ sym (numbered-push (fields_in records) fields 0)
 
 -- row 200,000 is one too many
-pub too_many : (all rows : List (List (List ℕ))) (row : List (List ℕ)) (rest : List (List (List ℕ))) → all ≡ rows ++ row ∷ rest → row_fault rows ≡ None → length rows ≡ 200000 → row_fault all ≡ Some TooManyRows
+pub too_many : (all rows : List (List (List ℕ))) (row : List (List ℕ)) (rest : List (List (List ℕ))) → all ≡ rows ++ row ∷ rest → row_fault rows ≡ None → length rows ≡ 200000 → row_fault all ≡ Some RowTooMany
 too_many all rows row rest is fine many = rw is (next-fault rows row rest fine ∙ rw many refl)
 
-refused-here : (i c : ℕ) (found : Option RowCause) (later : Option InputFault) → option_map row_cause_number found ≡ Some c → refused_or i found later ≡ Some (Refused i c)
+refused-here : (i c : ℕ) (found : Option RowCause) (later : Option RowsRefusal) → option_map row_cause_number found ≡ Some c → refused_or i found later ≡ Some (RefusedRow i c)
 refused-here i c None later h = cc
-refused-here i c (Some why) later h = ap (λ (o : Option ℕ). option_map (λ n. Refused i n) o) h
+refused-here i c (Some why) later h = ap (λ (o : Option ℕ). option_map (λ n. RefusedRow i n) o) h
 
 -- the next row is refused
 pub at_fault : (all rows : List (List (List ℕ))) (row : List (List ℕ)) (rest : List (List (List ℕ))) (c : ℕ) → all ≡ rows ++ row ∷ rest → row_fault rows ≡ None → length rows ≢ 200000
-    → option_map row_cause_number (row_cause (width_of (rows ++ row ∷ [])) row) ≡ Some c → row_fault all ≡ Some (Refused (length rows) c)
+    → option_map row_cause_number (row_cause (width_of (rows ++ row ∷ [])) row) ≡ Some c → row_fault all ≡ Some (RefusedRow (length rows) c)
 at_fault all rows row rest c is fine few why =
     let no : eqb (length rows) 200000 ≡ false = grind (arith, nat_tests) in
     rw is (next-fault rows row rest fine ∙ rw no (refused-here (length rows) c (row_cause (width_of (rows ++ row ∷ [])) row) _ why))

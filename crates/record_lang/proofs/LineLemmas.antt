@@ -22,7 +22,7 @@ slice_split-some p (x ∷ xs) = elim (cases_Bool (p x)) [
 ]
 
 -- a part that another follows is a line before a line feed
-lines_of_parts-cons : (part : List ℕ) (p : ℕ → Bool) (rest : List ℕ) → lines_of_parts (part ∷ slice_split p rest) ≡ strip_carriage_return part ∷ lines_of_parts (slice_split p rest)
+pub lines_of_parts-cons : (part : List ℕ) (p : ℕ → Bool) (rest : List ℕ) → lines_of_parts (part ∷ slice_split p rest) ≡ strip_carriage_return part ∷ lines_of_parts (slice_split p rest)
 lines_of_parts-cons part p rest = let some = slice_split-some p rest in rw (some.2) refl
 
 -- where a part ends

@@ -16,6 +16,11 @@ cause_number LooseJoint = 7
 abbrev pub first_cause : Cause → Cause → Cause
 first_cause a b = if nat_le (cause_number a) (cause_number b) then a else b
 
+-- where a text is refused, the first line being line 0, and the number of the cause
+pub record Refusal : Type 0 where
+  pub place : ℕ
+  pub cause : ℕ
+
 -- two parts of a line together, or the first of their causes
 abbrev pub together : {A B : Type 0} → Result A Cause → Result B Cause → Result (A × B) Cause
 together (Ok a) (Ok b) = Ok (a, b)

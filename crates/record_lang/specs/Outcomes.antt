@@ -1,5 +1,5 @@
 -- What becomes of a record.
-use Rattle.std.specs.Prelude.{◌+◌, ◌+ℤ◌, ◌*ℤ◌, ℕ, ℤ, List, [], ◌∷◌, ◌++◌, Bool, true, false, int_lt, int_le, slice_get, slice_set, length, nat_lt, Option, Some, None, Result, Ok, Err, if◌then◌else◌}
+use Rattle.std.specs.Prelude.{◌≡◌, ◌+◌, ◌+ℤ◌, ◌*ℤ◌, ℕ, ℤ, List, [], ◌∷◌, ◌++◌, Bool, true, false, int_lt, int_le, slice_get, slice_set, length, take, is_some, nat_lt, Option, Some, None, Result, Ok, Err, if◌then◌else◌}
 use Rattle.std.specs.List.{remove, sum_by}
 use Rattle.std.specs.Ordering.{int_eq}
 use Rattle.std.specs.Str.{bytes_eq}
@@ -15,11 +15,11 @@ use Rattle.record_lang.specs.declared.outcomes.Outcome.TheVariants as to
 use Rattle.record_lang.specs.declared.outcomes.RecordCause.{RecordCause}
 use Rattle.record_lang.specs.declared.outcomes.RecordCause.TheVariants as cause
 
-abbrev pub cause_number : RecordCause → ℕ
-cause_number cause.NoField = 1
-cause_number cause.NotNumber = 2
-cause_number cause.Overflow = 3
-cause_number cause.TooLong = 4
+abbrev pub record_cause_number : RecordCause → ℕ
+record_cause_number cause.NoField = 1
+record_cause_number cause.NotNumber = 2
+record_cause_number cause.Overflow = 3
+record_cause_number cause.TooLong = 4
 
 abbrev pub relation_holds : Relation → ℤ → ℤ → Bool
 relation_holds rel.Less a b = int_lt a b
@@ -67,7 +67,7 @@ joined_found (Some left) None = Err cause.NoField
 joined_found (Some left) (Some right) = Ok (left ++ right)
 
 abbrev pub refused : RecordCause → ℕ → Row → Outcome
-refused why j row = to.Refused row.number j (cause_number why)
+refused why j row = to.Refused row.number j (record_cause_number why)
 
 -- the record goes on unchanged, or not
 abbrev pub kept : Result Bool RecordCause → ℕ → Row → Outcome
@@ -127,3 +127,34 @@ outcome_from (s ∷ stages) j (to.Filtered number) = to.Filtered number
 -- what becomes of a record
 abbrev pub record_outcome : List Stage → Row → Outcome
 record_outcome stages row = outcome_from stages 1 (to.Result row)
+
+-- the number of the record that an outcome is of
+abbrev pub number_of_outcome : Outcome → ℕ
+number_of_outcome (to.Result row) = row.number
+number_of_outcome (to.Refused number at why) = number
+number_of_outcome (to.Filtered number) = number
+
+-- the record that goes on, if one does
+abbrev pub row_in : Outcome → Option Row
+row_in (to.Result row) = Some row
+row_in (to.Refused number at why) = None
+row_in (to.Filtered number) = None
+
+-- the record as it is after stages 1 to j, if none of them refuses or filters it
+abbrev pub row_after : List Stage → ℕ → Row → Option Row
+row_after stages j row = row_in (record_outcome (take j stages) row)
+
+-- whether stages 1 to j neither refuse nor filter the record
+abbrev pub goes_on : List Stage → ℕ → Row → Bool
+goes_on stages j row = is_some (row_after stages j row)
+
+-- the outcome of a record comes about stage by stage
+pub record StagesMakeOutcomes : Type 0 where
+  -- no stage leaves the record as it is
+  pub first : (stages : List Stage) (row : Row) → row_after stages 0 row ≡ Some row
+  -- what stage j + 1 makes of the record as it is after stages 1 to j is the outcome of stages 1 to j + 1
+  pub next : (stages : List Stage) (j : ℕ) (what : Stage) (row now : Row) → slice_get stages j ≡ Some what → row_after stages j row ≡ Some now → record_outcome (take (j + 1) stages) row ≡ stage_outcome what (j + 1) now
+  -- a record that does not go on has its outcome
+  pub ended : (stages : List Stage) (j : ℕ) (row : Row) → goes_on stages j row ≡ false → record_outcome (take j stages) row ≡ record_outcome stages row
+  -- and so has a record that has gone through all stages
+  pub last : (stages : List Stage) (row now : Row) → row_after stages (length stages) row ≡ Some now → record_outcome stages row ≡ to.Result now

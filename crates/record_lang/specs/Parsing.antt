@@ -1,7 +1,7 @@
 -- What the text of a pipeline means.
 use Rattle.std.specs.Prelude.{◌≡◌, ◌<◌, ◌+◌, ◌++◌, ⊤, ℕ, List, [], ◌∷◌, length, nat_lt, ◌==◌, is_some, unwrap_or, Some, None, Result, Ok, Err, if◌then◌else◌}
 use Rattle.std.specs.Str.Lines.{lines}
-use Rattle.record_lang.specs.Causes.{and_then, cause_number}
+use Rattle.record_lang.specs.Causes.{Refusal, and_then, cause_number}
 use Rattle.record_lang.specs.Lines.{line_of}
 use Rattle.record_lang.specs.Pipelines.{Meaning}
 use Rattle.record_lang.specs.declared.causes.Cause.{Cause}
@@ -53,17 +53,10 @@ whole all =
     else if is_some all.loose then Err LooseJoint
     else Ok (record { stages = all.stages; joints = all.joints; guard = all.guard })
 
-abbrev pub refused_at : ℕ → Cause → SpecFault
-refused_at place cause = Refused place (cause_number cause)
-
 -- what was told at this place of the text
-abbrev pub at_place : {A : Type 0} → ℕ → Result A Cause → Result A SpecFault
+abbrev pub at_place : {A : Type 0} → ℕ → Result A Cause → Result A Refusal
 at_place place (Ok a) = Ok a
-at_place place (Err cause) = Err (refused_at place cause)
-
-abbrev pub fault_at : ℕ → LineFault → SpecFault
-fault_at place (line_fault.Refused cause) = refused_at place cause
-fault_at place line_fault.NoMemory = NoMemory
+at_place place (Err cause) = Err (record { place = place; cause = cause_number cause })
 
 -- the line comes first in the text, and then what is after it
 pub record IsFirstLine (first after text : List ℕ) : Type 0 where
@@ -71,16 +64,21 @@ pub record IsFirstLine (first after text : List ℕ) : Type 0 where
   pub shorter : length after < length text
 
 -- the meaning of what was said so far and these lines, the first of which has this place
-unfoldable pub reading_from : ℕ → SoFar → List (List ℕ) → Result Meaning SpecFault
+unfoldable pub reading_from : ℕ → SoFar → List (List ℕ) → Result Meaning Refusal
 reading_from place before [] = at_place place (whole before)
 reading_from place before (next ∷ rest) = and_then (at_place place (with_text before next)) (λ after. reading_from (place + 1) after rest)
 
 -- the meaning of a text, or the first refused line with its first cause
-abbrev pub reading_of : List ℕ → Result Meaning SpecFault
+abbrev pub reading_of : List ℕ → Result Meaning Refusal
 reading_of text = reading_from 0 nothing_yet (lines text)
 
 -- the reading was told, unless there was no memory
-abbrev pub TellsPipeline : Result Meaning SpecFault → Result Meaning SpecFault → Type 0
+abbrev pub TellsPipeline : Result Meaning Refusal → Result Meaning SpecFault → Type 0
 TellsPipeline reading (Ok pipeline) = reading ≡ Ok pipeline
-TellsPipeline reading (Err (Refused place cause)) = reading ≡ Err (Refused place cause)
+TellsPipeline reading (Err (Refused place cause)) = reading ≡ Err (record { place = place; cause = cause })
 TellsPipeline reading (Err NoMemory) = ⊤
+
+-- the fault of a line at this place
+abbrev pub fault_at : ℕ → LineFault → SpecFault
+fault_at place (line_fault.Refused cause) = Refused place (cause_number cause)
+fault_at place line_fault.NoMemory = NoMemory

@@ -1,16 +1,11 @@
 -- The rows of a record file, and why a file is refused.
 use Rattle.std.specs.Prelude.{◌≡◌, ◌+◌, ℕ, List, [], ◌∷◌, ⊤, map, length, nat_lt, ◌==◌, not, Option, Some, None, if◌then◌else◌, Result, Ok, Err}
 use Rattle.std.specs.List.{sum_by}
-use Rattle.csv.specs.Reading.{default_config, records, strip_bom}
 use Rattle.record_lang.specs.Records.{Row}
 use Rattle.record_lang.specs.declared.rows.InputFault.{InputFault}
 use Rattle.record_lang.specs.declared.rows.InputFault.TheVariants.{Refused, TooManyRows, NoMemory}
 use Rattle.record_lang.specs.declared.rows.RowCause.{RowCause}
 use Rattle.record_lang.specs.declared.rows.RowCause.TheVariants as cause
-
--- every row of a file, as `csv` reads it by its defaults and without a header
-abbrev pub rows_of : List ℕ → List (List (List ℕ))
-rows_of bytes = records default_config (strip_bom bytes)
 
 -- rows with their numbers, from this one on
 abbrev pub numbered_from : ℕ → List (List (List ℕ)) → List Row
@@ -39,23 +34,29 @@ row_cause_number cause.FieldCount = 1
 row_cause_number cause.TooManyFields = 2
 row_cause_number cause.TooLong = 3
 
+-- why a file is refused: a row of it, with the number of the cause, or one row too many
+pub data RowsRefusal : Type 0 where
+  RefusedRow : (row cause : ℕ) → RowsRefusal
+  RowTooMany : RowsRefusal
+
 -- row i is refused, or else what comes of the rows after it
-abbrev pub refused_or : ℕ → Option RowCause → Option InputFault → Option InputFault
+abbrev pub refused_or : ℕ → Option RowCause → Option RowsRefusal → Option RowsRefusal
 refused_or i None later = later
-refused_or i (Some c) later = Some (Refused i (row_cause_number c))
+refused_or i (Some c) later = Some (RefusedRow i (row_cause_number c))
 
 -- why rows are refused, the first of which is row i: the first refused row, or one row too many
-abbrev pub fault_from : ℕ → ℕ → List (List (List ℕ)) → Option InputFault
+abbrev pub fault_from : ℕ → ℕ → List (List (List ℕ)) → Option RowsRefusal
 fault_from i width [] = None
 fault_from i width (row ∷ rows) =
-    if i == 200000 then Some TooManyRows else refused_or i (row_cause width row) (fault_from (i + 1) width rows)
+    if i == 200000 then Some RowTooMany else refused_or i (row_cause width row) (fault_from (i + 1) width rows)
 
-abbrev pub row_fault : List (List (List ℕ)) → Option InputFault
+-- why a file of these rows is refused, if it is
+abbrev pub row_fault : List (List (List ℕ)) → Option RowsRefusal
 row_fault rows = fault_from 0 (width_of rows) rows
 
 -- the answer for a file of these rows
 abbrev pub TellsRows : List (List (List ℕ)) → Result (List Row) InputFault → Type 0
 TellsRows rows (Ok records) = (row_fault rows ≡ None) × (records ≡ numbered_from 0 rows)
 TellsRows rows (Err NoMemory) = ⊤
-TellsRows rows (Err TooManyRows) = row_fault rows ≡ Some TooManyRows
-TellsRows rows (Err (Refused i c)) = row_fault rows ≡ Some (Refused i c)
+TellsRows rows (Err TooManyRows) = row_fault rows ≡ Some RowTooMany
+TellsRows rows (Err (Refused i c)) = row_fault rows ≡ Some (RefusedRow i c)

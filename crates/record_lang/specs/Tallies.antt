@@ -2,7 +2,7 @@
 use Rattle.std.specs.Prelude.{◌≡◌, ◌+◌, if◌then◌else◌}
 use Rattle.record_lang.specs.Texts.{Counts, is_filtered, is_refused, is_result}
 use Rattle.record_lang.specs.declared.outcomes.Outcome.{Outcome}
-use Rattle.record_lang.specs.declared.texts.Tally.{Tally}
+use Rattle.record_lang.specs.declared.tallies.Tally.{Tally}
 
 abbrev pub counts_in : Tally → Counts
 counts_in t = record { fed = t.fed; results = t.results; refused = t.refused; filtered = t.filtered }

@@ -6,7 +6,7 @@ ghost use Rattle.record_lang.specs.Pipelines.{IsBuildable};
 
 use crate::causes::Cause;
 use crate::lines::{Line, LineFault};
-use crate::{Guard, Joint, Pipeline, Stage};
+use crate::pipelines::{Guard, Joint, Pipeline, Stage};
 use std::alloc::Global;
 use std::marker::Model;
 
@@ -128,6 +128,6 @@ impl Draft {
         if loose.is_some() {
             return Err(Cause::LooseJoint);
         }
-        Ok(Pipeline::new(stages, joints, guard))
+        Ok(Pipeline::of_parts(stages, joints, guard))
     }
 }

@@ -5,12 +5,13 @@ ghost use Rattle.record_lang.specs.Lines.{guard_of, is_printable, joint_of, join
 ghost use Rattle.record_lang.specs.Pipelines.{IsBuildable, IsCapacity};
 ghost use Rattle.record_lang.specs.declared.lines.LineFault.TheVariants as fault;
 
+use crate::Field;
 use crate::causes::{Cause, both};
+use crate::pipelines::{Guard, Joint, Stage};
 use crate::words::{
     FullMode, Operation, capacity_in, code_in, mode_in, operand_in, operation_in, place_in,
     relation_in, words_in,
 };
-use crate::{Field, Guard, Joint, Stage};
 use ho_base::NoMemory;
 use std::alloc::{AllocError, AllocFailed, Global};
 

@@ -1,10 +1,11 @@
 // What a stage does with a record.
 ghost use Rattle.std.specs.Prelude.{◌≡◌, ◌≤◌, ◌<◌, ◌-◌, ◌++◌, ◌∷◌, [], List, ℕ, Some, Ok, length, slice_get, slice_set, IfOk, IfErr, IfSome, OnOk, option_map};
-ghost use Rattle.record_lang.specs.Outcomes.{appended, cause_number, compared, decimal_of, field_found, joined_found, kept, matched, number_found, plus, record_outcome, relation_holds, removed, refused, replaced, stage_outcome, sum_found, times, with_fields};
+ghost use Rattle.record_lang.specs.Outcomes.{appended, record_cause_number, compared, decimal_of, field_found, joined_found, kept, matched, number_found, number_of_outcome, plus, record_outcome, relation_holds, removed, refused, replaced, stage_outcome, sum_found, times, with_fields};
 
 use crate::numbers::{number_in, product};
+use crate::pipelines::{Relation, Stage};
 use crate::rows::is_too_long;
-use crate::{Field, Pipeline, Record, Relation, Stage};
+use crate::{Field, Pipeline, Record};
 use ho_base::{NoMemory, Unpaid};
 use itoa::Buffer;
 use std::alloc::Global;
@@ -22,6 +23,19 @@ pub enum Outcome {
     Filtered { number: u64 },
 }
 
+impl Outcome {
+    /// The number of the record that this became of.
+    pub fn number(&self) -> u64
+        ensures { result ≡ number_of_outcome self.now }
+    {
+        match self {
+            Outcome::Result(row) => row.row_number(),
+            Outcome::Refused { number, .. } => *number,
+            Outcome::Filtered { number } => *number,
+        }
+    }
+}
+
 // Why a stage refuses a record.
 #[derive(Clone, Copy)]
 pub(crate) enum RecordCause {
@@ -33,7 +47,7 @@ pub(crate) enum RecordCause {
 
 impl RecordCause {
     fn number(self) -> u8
-        ensures { result ≡ cause_number self }
+        ensures { result ≡ record_cause_number self }
     {
         match self {
             RecordCause::NoField => 1,

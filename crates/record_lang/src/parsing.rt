@@ -78,7 +78,7 @@ fn extended(alloc: Global, draft: Draft, line: &[u8]) -> Result<Draft, LineFault
 
 // After the last line.
 fn finished(draft: Draft, place: u64) -> Result<Pipeline, SpecFault>
-    ensures { result ≡ at_place place (whole draft) }
+    ensures { TellsPipeline (at_place place (whole draft)) result }
 {
     match draft.into_pipeline() {
         Ok(pipeline) => Ok(pipeline),

@@ -1,15 +1,15 @@
 // What a pipeline's text means.
-ghost use Rattle.std.specs.Prelude.{◌≡◌, ◌≤◌, ◌-◌, length, slice_get, Some, option_map};
+ghost use Rattle.std.specs.Prelude.{◌≡◌, ◌≤◌, ◌-◌, length, slice_get, Some, None, option_map};
 ghost use Rattle.record_lang.specs.Guards.{is_stopped, is_text, meets};
 ghost use Rattle.record_lang.specs.Pipelines.{HasJoints, IsBuildable};
 
-use crate::{Field, Record, Records};
+use crate::{Field, Record, Records, Stages};
 use ho_base::Fault;
 use std::marker::Model;
 
 /// How `keep` compares the number in a field with its own.
 #[derive(Clone, Copy, Debug, PartialEq, Eq)]
-pub enum Relation {
+pub(crate) enum Relation {
     Less,
     AtMost,
     Equal,
@@ -30,7 +30,7 @@ pub enum Joint {
 
 /// What is done with each record. Fields are counted from 0.
 #[derive(Drop)]
-pub enum Stage {
+pub(crate) enum Stage {
     /// Keeps the records whose field stands in this relation to the number.
     Keep {
         field: u32,
@@ -74,10 +74,10 @@ pub enum Stage {
 
 /// Where feeding stops: before the first record whose field equals the text.
 #[derive(Drop)]
-pub struct Guard {
-    pub field: u32,
-    pub text: Field,
-    pub code: Fault,
+pub(crate) struct Guard {
+    pub(crate) field: u32,
+    pub(crate) text: Field,
+    pub(crate) code: Fault,
 }
 
 /// The meaning of a pipeline's text: one to eight stages, the joint that feeds each, and perhaps a
@@ -100,8 +100,30 @@ impl Model for Pipeline {
 }
 
 impl Pipeline {
+    /// A pipeline of these stages, one to eight, each fed by the joint of the same place, and without
+    /// a guard. Takes no memory.
+    pub fn new(stages: Stages, joints: Vec<Joint>) -> Pipeline
+        requires { HasJoints stages joints.items }
+        ensures stages { result.stages ≡ stages }
+        ensures joints { result.joints ≡ joints.items }
+        ensures guard { result.guard ≡ None }
+    {
+        Pipeline::of_parts(stages.into_vec(), joints, None)
+    }
+
+    /// The same pipeline, whose feeding stops before the first record whose field is there and equals
+    /// the text. Another guard that it had is gone. Takes no memory.
+    pub fn with_guard(self, field: u32, text: Field, code: Fault) -> Pipeline
+        ensures stages { result.stages ≡ self.stages }
+        ensures joints { result.joints ≡ self.joints }
+        ensures guard { result.guard ≡ Some (record { field = field; text = text; code = code }) }
+    {
+        let guard = Some(Guard { field, text, code });
+        Pipeline::of_parts(self.stages, self.joints, guard)
+    }
+
     // A pipeline of these parts.
-    pub(crate) fn new(stages: Vec<Stage>, joints: Vec<Joint>, guard: Option<Guard>) -> Pipeline
+    pub(crate) fn of_parts(stages: Vec<Stage>, joints: Vec<Joint>, guard: Option<Guard>) -> Pipeline
         requires { HasJoints stages.items joints.items }
         ensures stages { result.stages ≡ stages.items }
         ensures joints { result.joints ≡ joints.items }

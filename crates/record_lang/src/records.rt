@@ -1,7 +1,6 @@
 // Records: a number, and fields of bytes.
 ghost use Rattle.std.specs.Prelude.{◌≡◌, [], ◌∷◌, ◌++◌, ◌<◌, length, slice_set, OnOk, OnErr, IfOk, IfErr, option_map, slice_get};
 ghost use Rattle.std.specs.List.{remove};
-ghost use Rattle.record_lang.specs.Marks.{MarksTellRecords};
 ghost use Rattle.record_lang.specs.Records.{AreNumbered};
 
 use crate::Field;
@@ -119,12 +118,6 @@ impl Item for Record {
         self.number
     }
 }
-
-/// A law of marks: a record's mark tells the record whole, so that a step on records can be read
-/// on their marks. Does nothing.
-pub fn marks_tell_records()
-    ensures { MarksTellRecords }
-{}
 
 /// The rows of a record file, in order: row k has the number k.
 #[derive(Drop)]

@@ -1,14 +1,16 @@
 // Reads the rows of a record file.
-ghost use Rattle.std.specs.Prelude.{◌≡◌, ◌≤◌, ◌<◌, ◌∷◌, ◌++◌, [], ℕ, List, length, nat_lt, slice_index_or, IfOk, IfErr};
+ghost use Rattle.std.specs.Prelude.{◌≡◌, ◌<◌, ◌∷◌, ◌++◌, [], length, nat_lt, IfOk};
 ghost use Rattle.std.specs.List.{sum_by};
 ghost use Rattle.csv.specs.Records.{fields_of};
-ghost use Rattle.record_lang.specs.Readers.{GivesRow, HasRead, TakesRow};
-ghost use Rattle.record_lang.specs.Rows.{TellsRows, fields_in, row_cause, row_cause_number, rows_of, width_of};
+ghost use Rattle.text_rows.specs.Rows.{rows_of};
+ghost use Rattle.record_lang.specs.Kept.{TakesRow};
+ghost use Rattle.record_lang.specs.Rows.{TellsRows, fields_in, row_cause, row_cause_number, width_of};
 
 use crate::{Field, Record, Records};
-use csv::{ByteRecord, Reader, ReaderBuilder};
+use csv::ByteRecord;
 use ho_base::{NoMemory, Unpaid};
 use std::alloc::Global;
+use text_rows::{field_of, new_reader, next_row};
 
 /// The most rows of a record file.
 const MAX_ROWS: usize = 200_000;
@@ -101,14 +103,6 @@ fn cause_of(fields: &[Field], width: usize) -> Option<RowCause>
     None
 }
 
-// A field of a row.
-fn field_of(row: &ByteRecord, i: usize) -> &[u8]
-    requires { i < length (fields_of row.now) }
-    ensures { result.now ≡ slice_index_or (fields_of row.now) i [] }
-{
-    row.get(i).unwrap()
-}
-
 // A record of a row's fields.
 fn record_of(alloc: Global, number: u64, row: &ByteRecord) -> Result<Record, NoMemory>
     ensures { IfOk result (λ r. (r.number ≡ number) × (r.fields ≡ fields_of row.now)) }
@@ -149,18 +143,6 @@ fn take_row(alloc: Global, records: &mut Records, row: &ByteRecord) -> Result<()
     Ok(())
 }
 
-// Reads the next row, if there is one. With rows of any length allowed, and over a slice, only
-// memory can be wanting.
-fn next_row(reader: &mut Reader<&[u8]>, row: &mut ByteRecord) -> Result<bool, InputFault>
-    ensures gives { IfOk result (λ found. (bytes : List ℕ) → (rows : List (List (List ℕ))) → HasRead bytes rows reader.old → GivesRow bytes rows found (fields_of row.new) reader.new) }
-    ensures error { IfErr result (λ e. e ≡ InputFault.NoMemory) }
-{
-    let Ok(found) = reader.read_byte_record(row) else {
-        return Err(InputFault::NoMemory);
-    };
-    Ok(found)
-}
-
 /// The rows of a record file, or its first refused row.
 ///
 /// The rows are those that `csv` reads by its defaults, without a header: a byte order mark at the
@@ -169,10 +151,7 @@ fn next_row(reader: &mut Reader<&[u8]>, row: &mut ByteRecord) -> Result<bool, In
 pub fn read_records(alloc: Global, bytes: &[u8]) -> Result<Records, InputFault>
     ensures { TellsRows (rows_of bytes.now) result }
 {
-    let mut reader = ReaderBuilder::new()
-        .has_headers(false)
-        .flexible(true)
-        .from_reader(alloc, bytes);
+    let mut reader = new_reader(alloc, bytes);
     let mut row = ByteRecord::new(alloc);
     let mut records = Records::new(alloc);
     'rows: while next_row(&mut reader, &mut row)? {

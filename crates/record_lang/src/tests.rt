@@ -1,7 +1,8 @@
 use super::*;
-use ho_base::{Item, NoMemory};
+use ho_base::{Fault, Item, NoMemory};
 use std::alloc::Global;
 use std::test::Fail;
+use std::thread::join;
 
 // The text of a pipeline on a record file.
 fn text_of(alloc: Global, pipeline: &[u8], file: &[u8]) -> Result<Vec<u8>, Fail> {
@@ -184,26 +185,30 @@ fn a_new_record_has_at_most_4096_bytes(rt: HostRuntime) -> Result<(), Fail> {
     Ok(())
 }
 
+// The first refused row of a file and its cause, or None where it is read whole.
+fn refusal_of(alloc: Global, file: &[u8]) -> Result<Option<(u64, u8)>, InputFault> {
+    match read_records(alloc, file) {
+        Ok(_) => Ok(None),
+        Err(InputFault::Refused { row, cause }) => Ok(Some((row, cause))),
+        Err(fault) => Err(fault),
+    }
+}
+
 #[test]
 fn refused_rows(rt: HostRuntime) -> Result<(), Fail> {
     let alloc = rt.alloc();
     for (bytes, fields, want) in [
         (1, 64, None),
-        (1, 65, Some(2)),
+        (1, 65, Some((0, 2))),
         (4096, 1, None),
-        (4097, 1, Some(3)),
+        (4097, 1, Some((0, 3))),
         (4033, 64, None),
-        (4034, 64, Some(3)),
+        (4034, 64, Some((0, 3))),
     ] {
         let file = rows_of(alloc, bytes, fields)?;
-        let cause = match read_records(alloc, &file) {
-            Err(InputFault::Refused { row: 0, cause }) => Some(cause),
-            _ => None,
-        };
-        assert_eq!(rt; cause, want);
+        assert_eq!(rt; refusal_of(alloc, &file), Ok(want));
     }
-    let fault = read_records(alloc, b"a,b\nc\n");
-    assert!(rt; matches!(&fault, Err(InputFault::Refused { row: 1, cause: 1 })));
+    assert_eq!(rt; refusal_of(alloc, b"a,b\nc\n"), Ok(Some((1, 1))));
     Ok(())
 }
 
@@ -222,6 +227,15 @@ fn at_most_200_000_rows(rt: HostRuntime) -> Result<(), Fail> {
     Ok(())
 }
 
+// A record of these fields.
+fn record_of(alloc: Global, number: u64, fields: &[&[u8]]) -> Result<Record, NoMemory> {
+    let mut record = Record::new(alloc, number);
+    for field in fields {
+        record.push(Field::new(alloc, field)?)?;
+    }
+    Ok(record)
+}
+
 // The records of one row, `ann,12`.
 fn one_record(alloc: Global) -> Result<Records, NoMemory> {
     let mut record = Record::new(alloc, 0);
@@ -232,28 +246,143 @@ fn one_record(alloc: Global) -> Result<Records, NoMemory> {
     Ok(records)
 }
 
+// Whether a record has this number and these fields.
+fn is_record(record: &Record, number: u64, fields: &[&[u8]]) -> bool {
+    record.number() == number
+        && record.fields().len() == fields.len()
+        && record
+            .fields()
+            .iter()
+            .zip(fields)
+            .all(|(field, want)| field.bytes() == *want)
+}
+
 #[test]
 fn a_record_by_hand(rt: HostRuntime) -> Result<(), Fail> {
     let alloc = rt.alloc();
-    let pipeline = parse_pipeline(alloc, b"guard 0 ann 9\nstage keep 1 ge 10\n")?;
+    assert_eq!(rt; Field::new(alloc, b"a\x00b")?.bytes(), b"a\x00b".as_slice());
+    let pipeline = parse_pipeline(alloc, b"guard 0 ann 9\nstage cat 1 0\n")?;
     let records = one_record(alloc)?;
     assert!(rt; pipeline.stops(&records));
     for record in records.into_vec() {
-        assert_eq!(rt; record.number(), 0);
+        assert!(rt; is_record(&record, 0, &[b"ann", b"12"]));
         assert_eq!(rt; record.priority(), 0);
         assert!(rt; pipeline.meets_guard(&record));
         let outcome = apply_stage(&pipeline, 1, record);
-        assert!(rt; matches!(&outcome, Ok(Outcome::Result(kept)) if kept.fields().len() == 2));
+        assert!(rt;
+            matches!(&outcome, Ok(Outcome::Result(now)) if is_record(now, 0, &[b"ann", b"12", b"12ann"]))
+        );
     }
     marks_tell_records();
     Ok(())
 }
 
 #[test]
-fn a_row_by_hand(rt: HostRuntime) -> Result<(), Fail> {
-    let fields = [b"missing".as_slice(), b"my \"file\"", b"", b"a\rb", b"c"];
-    let line = row_line(rt.alloc(), &fields)?;
-    let want = b"missing,\"my \"\"file\"\"\",,\"a\rb\",c\n";
-    assert_eq!(rt; line.bytes(), want.as_slice());
+fn outcomes_at_later_stages(rt: HostRuntime) -> Result<(), Fail> {
+    for (pipeline, want) in [
+        (
+            b"stage copy 0\nstage add 1 1\n".as_slice(),
+            b"result,1,7,8\nrefused,0,2,2\ncounts,2,1,1,0\nending,done\n".as_slice(),
+        ),
+        (
+            b"stage copy 0\nstage match 1 7\nstage cut 2\nstage copy 0\n",
+            b"refused,1,3,1\ncounts,2,0,1,1\nending,done\n",
+        ),
+    ] {
+        let text = text_of(rt.alloc(), pipeline, b"x\n7\n")?;
+        assert_eq!(rt; text.as_slice(), want);
+    }
+    stages_make_outcomes();
+    Ok(())
+}
+
+// A report of a run in which joints 1 and 2 dropped a record each.
+fn report_with_drops(alloc: Global) -> Result<Report, NoMemory> {
+    let mut report = Report::with_drops(alloc);
+    report.push(Outcome::Result(record_of(alloc, 0, &[b"a,b"])?))?;
+    report.push(Outcome::Refused {
+        number: 2,
+        stage: 2,
+        cause: 1,
+    })?;
+    report.push(Outcome::Filtered { number: 3 })?;
+    report.push(Outcome::Result(record_of(alloc, 4, &[])?))?;
+    report.push_dropped(Dropped {
+        number: 5,
+        joint: 1,
+    })?;
+    report.push_dropped(Dropped {
+        number: 1,
+        joint: 2,
+    })?;
+    Ok(report)
+}
+
+// A report of one record.
+fn report_of_one(alloc: Global, outcome: Outcome) -> Result<Report, NoMemory> {
+    let mut report = Report::new(alloc);
+    report.push(outcome)?;
+    Ok(report)
+}
+
+#[test]
+fn a_report_by_hand(rt: HostRuntime) -> Result<(), Fail> {
+    let alloc = rt.alloc();
+    let text = report_with_drops(alloc)?.text(alloc, None)?;
+    let want =
+        b"result,0,\"a,b\"\nresult,4\nrefused,2,2,1\ndropped,5,1\ndropped,1,2\ncounts,6,2,1,1,2\nending,done\n";
+    assert_eq!(rt; text.bytes(), want.as_slice());
+    let filtered = Outcome::Filtered { number: 7 };
+    assert_eq!(rt; filtered.number(), 7);
+    let text = report_of_one(alloc, filtered)?.text(alloc, Fault::new(9))?;
+    assert_eq!(rt;
+        text.bytes(),
+        b"counts,1,0,0,1\nending,guard,9\n".as_slice()
+    );
+    Ok(())
+}
+
+// The pipeline `keep 0 ge 500`, `add 0 5`, `mul 0 3`, with a guard.
+fn pipeline_by_hand(alloc: Global) -> Result<Pipeline, Fail> {
+    let mut stages = Stages::new(alloc);
+    stages.keep_at_least(0, 500)?;
+    stages.add(0, 5)?;
+    stages.mul(0, 3)?;
+    let joints = vec![in alloc; Joint::Wait(16), Joint::Unbounded, Joint::Wait(16)]?;
+    let pipeline = Pipeline::new(stages, joints);
+    match Fault::new(9) {
+        Some(code) => Ok(pipeline.with_guard(1, Field::new(alloc, b"x")?, code)),
+        None => Ok(pipeline),
+    }
+}
+
+#[test]
+fn a_pipeline_by_hand(rt: HostRuntime) -> Result<(), Fail> {
+    let alloc = rt.alloc();
+    let pipeline = pipeline_by_hand(alloc)?;
+    assert_eq!(rt; pipeline.stages(), 3);
+    if pipeline.stages() == 3 {
+        assert_eq!(rt; pipeline.joint(2), Joint::Unbounded);
+    }
+    let records = read_records(alloc, b"838,0\n758,1\n113,2\n0,x\n")?;
+    let text = one_thread_text(alloc, &pipeline, records)?;
+    let want = b"result,0,2529,0\nresult,1,2289,1\ncounts,3,2,0,1\nending,guard,9\n";
+    assert_eq!(rt; text.bytes(), want.as_slice());
+    Ok(())
+}
+
+#[test]
+fn pipelines_are_lent_and_outcomes_moved_across_threads(rt: HostRuntime) -> Result<(), Fail> {
+    let alloc = rt.alloc();
+    let pipeline = parse_pipeline(alloc, b"stage copy 0\n")?;
+    let record = record_of(alloc, 0, &[b"a"])?;
+    let outcomes = vec![in alloc; Outcome::Filtered { number: 1 }]?;
+    let (outcome, count) = join(
+        &rt,
+        || apply_stage(&pipeline, 1, record),
+        move || outcomes.len(),
+    );
+    assert!(rt; matches!(&outcome, Ok(Outcome::Result(now)) if is_record(now, 0, &[b"a", b"a"])));
+    assert_eq!(rt; count, 1);
     Ok(())
 }

@@ -4,9 +4,9 @@ ghost use Rattle.std.specs.Str.{all_ascii_digits};
 ghost use Rattle.record_lang.specs.Pipelines.{IsCapacity};
 ghost use Rattle.record_lang.specs.Words.{capacity_of, code_of, is_digits, mode_of, number_within, operand_of, operation_of, place_of, relation_of, words_of};
 
-use crate::Relation;
 use crate::causes::Cause;
 use crate::numbers::number_in;
+use crate::pipelines::Relation;
 use ho_base::{Fault, magnitude};
 use std::alloc::{AllocError, Global};
 

@@ -1,5 +1,5 @@
 use super::*;
-use crate::{Joint, Relation, Stage};
+use crate::pipelines::{Joint, Relation, Stage};
 use std::process::Abort;
 
 // Each text with the place and the cause of its refusal, or None where it is read.

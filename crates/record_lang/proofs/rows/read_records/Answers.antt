@@ -1,34 +1,19 @@
-use Rattle.std.proofs.Common.{◌∙◌, ap, arith, inr, length, refl, sym}
+use Rattle.std.proofs.Common.{◌∙◌, ap, arith, length, refl, sym}
 use Rattle.std.proofs.lemmas.List.{length-append}
-use Rattle.csv.specs.Reading.{Reached, strip_bom}
 use Rattle.csv.specs.Records.{fields_of}
-use Rattle.record_lang.specs.Rows.{fields_in, rows_of}
+use Rattle.text_rows.specs.Rows.{rows_of}
+use Rattle.record_lang.specs.Rows.{fields_in}
 use Rattle.record_lang.proofs.FaultLemmas.{no_fault, numbered_more}
-use Rattle.record_lang.proofs.ReaderLemmas.{few, one_too_many, passed_on, row_kept, row_refused}
+use Rattle.record_lang.proofs.KeptLemmas.{few, one_too_many, passed_on, row_kept, row_refused}
 use Rattle.record_lang.proofs.rows.read_records.Goals as goal
 
 pub rows-init : goal.rows-init
-unfolding Reached
-rows-init c =
-    let r = c.from_reader-reader.ensures in
-    let f = c.flexible.ensures in
-    let e = c.has_headers.ensures in
-    rw c.new-records.ensures (record {
-      read = record {
-        untrimmed = rw (f, e) at r.trim ∙ c.new.ensures.trim;
-        ready = inr (inr (rw (f, e) at r.has_headers, r.headers));
-        config = rw (f, e) at r.config ∙ c.new.ensures.config;
-        reached = (strip_bom c.args.bytes.now, r.source, (sym r.state, refl));
-      };
-      numbered = refl;
-      fine = refl;
-      few = omega arith;
-    })
+rows-init c = rw c.new-records.ensures (record { read = c.new_reader-reader.ensures; numbered = refl; fine = refl; few = omega arith })
 
 pub returns-then-as_slice-eq-MAX_ROWS : goal.returns-then-as_slice-eq-MAX_ROWS
 returns-then-as_slice-eq-MAX_ROWS c =
     let inv = c.rows.invariant in
-    let read = rw c.if-branch.true at (c.in_ok-next_row.ensures.gives c.args.bytes.now (fields_in c.rows.records) inv.read) in
+    let read = rw c.if-branch.true at (c.in_ok-next_row.ensures c.args.bytes.now (fields_in c.rows.records) inv.read) in
     one_too_many c.args.bytes.now c.rows.records (fields_of c.next_row.new.row) c.next_row.new.reader read inv.fine (ap length (sym c.as_slice.ensures.rows) ∙ c.if-as_slice-eq-MAX_ROWS.true)
 
 pub rows-smaller : goal.rows-smaller
@@ -41,7 +26,7 @@ rows-smaller c =
 pub rows-preserved : goal.rows-preserved
 rows-preserved c =
     let inv = c.rows.invariant in
-    let read = rw c.if-branch.true at (c.in_ok-next_row.ensures.gives c.args.bytes.now (fields_in c.rows.records) inv.read) in
+    let read = rw c.if-branch.true at (c.in_ok-next_row.ensures c.args.bytes.now (fields_in c.rows.records) inv.read) in
     let took = c.in_ok-take_row.ensures in
     let more = ap length took.1 ∙ length-append c.rows.records _ in
     let rows = ap length c.as_slice.ensures.rows in
@@ -57,7 +42,7 @@ rows-preserved c =
 pub returns-in_err-take_row : goal.returns-in_err-take_row
 returns-in_err-take_row c =
     let inv = c.rows.invariant in
-    let read = rw c.if-branch.true at (c.in_ok-next_row.ensures.gives c.args.bytes.now (fields_in c.rows.records) inv.read) in
+    let read = rw c.if-branch.true at (c.in_ok-next_row.ensures c.args.bytes.now (fields_in c.rows.records) inv.read) in
     let rows = ap length c.as_slice.ensures.rows in
     let refused = row_refused c.args.bytes.now c.rows.records c.take_row.new.records (fields_of c.next_row.new.row) c.next_row.new.reader c.in_err-take_row.field-0.0 c.in_err-take_row.ensures read inv.fine (λ e. c.if-as_slice-eq-MAX_ROWS.false (rows ∙ e)) in
     passed_on (rows_of c.args.bytes.now) c.from_residual-in_err-take_row.result c.in_err-take_row.field-0.0 c.from_residual-in_err-take_row.ensures.1 refused
@@ -65,5 +50,5 @@ returns-in_err-take_row c =
 pub returns : goal.returns
 returns c =
     let inv = c.rows.invariant in
-    let all = rw c.if-branch.false at (c.in_ok-next_row.ensures.gives c.args.bytes.now (fields_in c.rows.records) inv.read) in
+    let all = rw c.if-branch.false at (c.in_ok-next_row.ensures c.args.bytes.now (fields_in c.rows.records) inv.read) in
     rw all (inv.fine, inv.numbered)

@@ -1,5 +1,5 @@
 use Rattle.std.proofs.Common.{◌≡◌, ◌≤◌, ◌-◌, None, length}
-use Rattle.record_lang.specs.Readers.{HasRead}
+use Rattle.text_rows.specs.Readers.{HasRead}
 use Rattle.record_lang.specs.Rows.{fields_in, numbered_from, row_fault}
 use Rattle.record_lang.proofs.rows.read_records.Given as goal
 

@@ -1,5 +1,0 @@
-use Rattle.record_lang.proofs.MarkLemmas.{marks_tell}
-use Rattle.record_lang.proofs.records.marks_tell_records.Goals as goal
-
-pub returns : goal.returns
-returns c = marks_tell
