@@ -1,0 +1,11 @@
+pub mod Answers
+pub mod Calls
+pub mod Causes
+pub mod Checks
+pub mod Histories
+pub mod Numbers
+pub mod Objects
+pub mod Plans
+pub mod Replies
+pub mod Scripts
+pub mod TextLaws
