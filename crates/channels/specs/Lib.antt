@@ -2,3 +2,18 @@ pub mod Calls
 pub mod Machine
 pub mod Making
 pub mod Replies
+-- what the clauses of the public calls cite from below
+pub use Rattle.ho_base.specs.Marks
+pub use Rattle.ho_model.specs.Entries
+pub use Rattle.ho_model.specs.declared.marks.CallMark.TheVariants as CallMarks
+pub use Rattle.ho_model.specs.declared.marks.ReplyMark.TheVariants as ReplyMarks
+pub use Rattle.ho_model.specs.declared.objects.Object.TheVariants as Objects
+pub use Rattle.channel_core.specs.Fits
+pub use Rattle.channel_core.specs.Kept
+pub use Rattle.channel_core.specs.Marks as ChannelMarks
+pub use Rattle.passes.specs.Numbers
+pub use Rattle.passes.specs.Seen
+pub use Rattle.passes.specs.Views as PassViews
+pub use Rattle.passes.specs.Calls as PassCalls
+pub use Rattle.turn_lock.specs.Passes
+pub use Rattle.turn_lock.specs.Calls as LockCalls

@@ -1,26 +1,33 @@
 // What a writer and a reader are made of: a channel, and the pass by which a caller calls it.
-ghost use Rattle.std.specs.Prelude.{◌≡◌, true, IfOk, IfErr, OnErr};
+ghost use Rattle.std.specs.Prelude.{◌≡◌};
+ghost use Rattle.passes.specs.Calls.{IsSamePass};
+ghost use Rattle.channels.specs.Calls.{Calls, Tries};
 
 use crate::channel::Channel;
+use crate::news::Ring;
+use crate::sides::Side;
+use crate::tries::{ChannelTry, channel_try};
 use channel_core::{ChannelCall, ChannelReply};
 use ho_base::{Item, Receipt, Unpaid};
+use pauses::Nap;
 use std::marker::Model;
 use std::sync::Wait;
 use turn_lock::Pass;
 
-/// A caller's access to a channel: the channel, and the pass that the caller has of it. Contracts see
-/// of it its pass. A writer and a reader are one each, and lend it to what serves both.
+/// A caller's access to a channel: the channel, and the pass that the caller has of it. Contracts
+/// see of it its pass. A writer and a reader are one each, and lend it to what serves both. Every
+/// call of theirs goes through it.
 #[derive(Drop)]
 pub struct Access<'c, T: Item> {
-    pub(crate) channel: &'c Channel<T>,
-    pub(crate) pass: Pass,
+    channel: &'c Channel<T>,
+    pass: Pass,
 }
 
 impl<'c, T: Item> Model for Access<'c, T> {
     ghost use Rattle.std.specs.Prelude.{◌≡◌};
-    ghost use Rattle.turn_lock.specs.Passes.{PassView};
+    ghost use Rattle.turn_lock.specs.Passes.{LockPass};
 
-    ghost Value = { PassView };
+    ghost Value = { LockPass };
 
     ghost view = { λ a. a.pass };
 
@@ -28,12 +35,6 @@ impl<'c, T: Item> Model for Access<'c, T> {
 }
 
 impl<'c, T: Item> Access<'c, T> {
-    ghost use Rattle.ho_model.specs.Entries.{entry};
-    ghost use Rattle.channel_core.specs.Fits.{fits};
-    ghost use Rattle.channel_core.specs.Kept.{may_want};
-    ghost use Rattle.channel_core.specs.Marks.{call_mark, reply_mark};
-    ghost use Rattle.turn_lock.specs.Calls.{IsSamePass, Answers, AddsNoEntry, CountsOne};
-
     pub(crate) fn new(channel: &'c Channel<T>, pass: Pass) -> Access<'c, T>
         requires { pass.table ≡ channel.now }
         ensures { result ≡ pass }
@@ -47,25 +48,47 @@ impl<'c, T: Item> Access<'c, T> {
         let Access { channel: _, pass } = self;
         pass
     }
+}
 
-    /// Makes any call of the channel. See `Channel::call`.
-    pub(crate) fn call<R: Wait>(
+impl<'c, T: Item> Side<T> for Access<'c, T> {
+    ghost pass = { λ a. a };
+
+    fn side_call<R: Wait>(
         &mut self,
         rt: &R,
         call: ChannelCall<T>,
     ) -> Result<(ChannelReply<T>, Receipt), Unpaid<ChannelCall<T>>>
-        ensures pass { IsSamePass self.old self.new }
-        ensures counted { CountsOne self.old self.new }
-
-        ensures entry { IfOk result (λ r. Answers T.priority_of
-            (λ tally. fits tally call r.0) self.old
-            (entry self.old.caller (call_mark T.mark call) (reply_mark T.mark r.0)) r.1 self.new) }
-
-        ensures back { IfErr result (λ unpaid. unpaid.back ≡ call) }
-        ensures no_entry { OnErr result (AddsNoEntry T.priority_of self.old self.new
-            × (self.new.met ≡ self.old.met)) }
-        ensures wanted { OnErr result (may_want self.old.object (call_mark T.mark call) ≡ true) }
+        ensures same { IsSamePass self.old self.new }
+        ensures called { Calls T.mark T.priority_of self.old self.new call result }
     {
-        self.channel.call(rt, &mut self.pass, call)
+        let channel = self.channel;
+        let _ring = Ring::after(&channel.bells, &call);
+        channel.shared.call(rt, &mut self.pass, call)
+    }
+
+    fn try_side_call(&mut self, call: ChannelCall<T>) -> ChannelTry<T>
+        ensures same { IsSamePass self.old self.new }
+        ensures tried { Tries T.mark T.priority_of self.old self.new call result }
+    {
+        let channel = self.channel;
+        let _ring = Ring::after(&channel.bells, &call);
+        channel_try(channel.shared.try_call(&mut self.pass, call))
+    }
+
+    fn note(&self, receipt: Receipt) {
+        if let Receipt::Place { number } = receipt {
+            let channel = self.channel;
+            channel.bells.note(self.pass.caller(), number);
+        }
+    }
+
+    fn nap<R: Wait>(&self, rt: &R, nap: &mut Nap) {
+        let channel = self.channel;
+        nap.take(rt, &channel.bells, self.pass.caller());
+    }
+
+    fn wake(&self, nap: &mut Nap) {
+        let channel = self.channel;
+        nap.end(&channel.bells, self.pass.caller());
     }
 }

@@ -1,10 +1,13 @@
 // A channel that callers share.
-ghost use Rattle.std.specs.Prelude.{◌≡◌, ◌<◌, ◌≤◌, ◌++◌, ◌↔◌, ℕ, [], true, IfOk, IfErr, OnOk, OnErr, Err};
+ghost use Rattle.std.specs.Prelude.{◌≡◌, ◌<◌, ◌≤◌, ◌↔◌, IfOk, Err};
 
 use crate::machine::ChannelMachine;
+use crate::news::Ring;
+use crate::tries::{ChannelTry, channel_try};
 use channel_core::{ChannelCall, ChannelReply, ChannelState};
 use ho_base::{Item, NoMemory, Receipt, Unpaid};
 use ho_model::Mode;
+use pauses::Bells;
 use priority_core::PriorityState;
 use std::alloc::Global;
 use std::marker::Model;
@@ -27,6 +30,8 @@ const MOST_ITEMS: u32 = 65_536;
 #[derive(Drop)]
 pub struct Channel<T: Item> {
     pub(crate) shared: Shared<ChannelMachine<T>>,
+    /// Beside these those sleep who wait for an item or for room.
+    pub(crate) bells: Bells,
 }
 
 impl<T: Item> Model for Channel<T> {
@@ -40,31 +45,28 @@ impl<T: Item> Model for Channel<T> {
 }
 
 impl<T: Item> Channel<T> {
-    ghost use Rattle.ho_model.specs.Entries.{entry};
     ghost use Rattle.ho_model.specs.declared.objects.Object.TheVariants as object;
-    ghost use Rattle.passes.specs.Numbers.{IsSpare, AreApart, held_count, held_both, made_both, give, only};
-    ghost use Rattle.passes.specs.Seen.{SeesOthers, IsLawful, longer};
-    ghost use Rattle.channel_core.specs.Fits.{fits};
-    ghost use Rattle.channel_core.specs.Kept.{may_want};
-    ghost use Rattle.channel_core.specs.Marks.{call_mark, reply_mark};
-    ghost use Rattle.turn_lock.specs.Passes.{first_pass};
-    ghost use Rattle.turn_lock.specs.Calls.{IsSamePass, Answers, AddsNoEntry, CountsOne};
+    ghost use Rattle.passes.specs.Numbers.{held_count};
+    ghost use Rattle.passes.specs.Views.{first_pass};
+    ghost use Rattle.passes.specs.Calls.{IsSamePass, Splits, Joins};
+    ghost use Rattle.channels.specs.Calls.{Calls, Tries};
     ghost use Rattle.channels.specs.Making.{IsBadCapacity};
     ghost use Rattle.channels.specs.declared.channel.MakeRefused.TheVariants.{BadCapacity};
 
-    /// A channel that is never full (`Channel.CreateUnbounded`), and the first pass, which holds all
-    /// numbers.
+    /// A channel that is never full (.NET's `Channel.CreateUnbounded`), for callers 0 up to
+    /// `callers`, and the first pass, which holds all numbers.
     pub fn unbounded(alloc: Global, callers: u32) -> Result<(Channel<T>, Pass), NoMemory>
         requires callers { (0 < callers) × (callers ≤ 64) }
         ensures { IfOk result (λ made. made.1 ≡ first_pass made.0 object.Unbounded callers) }
     {
         let state = ChannelState::unbounded(alloc, callers)?;
         let (shared, pass) = Shared::new(alloc, ChannelMachine::Ordered(state), callers)?;
-        Ok((Channel { shared }, pass))
+        let bells = Bells::new();
+        Ok((Channel { shared, bells }, pass))
     }
 
-    /// A channel with room for `capacity` items (`Channel.CreateBounded`), and the first pass. It
-    /// takes the memory of its buffer here.
+    /// A channel with room for `capacity` items (.NET's `Channel.CreateBounded`), and the first
+    /// pass. It takes the memory of its buffer here.
     pub fn bounded(
         alloc: Global,
         capacity: u32,
@@ -83,56 +85,51 @@ impl<T: Item> Channel<T> {
             return Err(MakeRefused::NoMemory);
         };
         match Shared::new(alloc, ChannelMachine::Ordered(state), callers) {
-            Ok((shared, pass)) => Ok((Channel { shared }, pass)),
+            Ok((shared, pass)) => {
+                let bells = Bells::new();
+                Ok((Channel { shared, bells }, pass))
+            }
             Err(_) => Err(MakeRefused::NoMemory),
         }
     }
 
     /// A channel without a capacity whose items leave by priority
-    /// (`Channel.CreateUnboundedPrioritized`), and the first pass.
+    /// (.NET's `Channel.CreateUnboundedPrioritized`), and the first pass.
     pub fn prioritized(alloc: Global, callers: u32) -> Result<(Channel<T>, Pass), NoMemory>
         requires callers { (0 < callers) × (callers ≤ 64) }
         ensures { IfOk result (λ made. made.1 ≡ first_pass made.0 object.Prioritized callers) }
     {
         let state = PriorityState::new(alloc, callers)?;
         let (shared, pass) = Shared::new(alloc, ChannelMachine::Prioritized(state), callers)?;
-        Ok((Channel { shared }, pass))
+        let bells = Bells::new();
+        Ok((Channel { shared, bells }, pass))
     }
 
-    /// Splits off a pass with the least number that can be given away. See `Shared::split`.
+    /// Splits off a pass with the least number that can be given away, which has seen as much.
+    /// Takes no memory.
     pub fn split(&self, pass: &mut Pass) -> Pass
         requires table { pass.old.table ≡ self.now }
         requires spare { 1 < held_count pass.old.held }
-        ensures kept { pass.new ≡ record pass.old { held = give pass.old.held result.caller } }
-        ensures given { result ≡
-            record pass.old { caller = result.caller; held = only result.caller; met = [] } }
-        ensures spare { IsSpare pass.old.held pass.old.caller result.caller }
-        ensures least { (c : ℕ) → c < result.caller → ¬ IsSpare pass.old.held pass.old.caller c }
+        ensures { Splits pass.old pass.new result }
     {
         self.shared.split(pass)
     }
 
-    /// Takes in another pass of the same channel. See `Shared::join`.
+    /// Takes in another pass of the same channel, with its numbers, their counts, and what it has
+    /// seen. Takes no memory.
     pub fn join(&self, pass: &mut Pass, other: Pass)
         requires table { (pass.old.table ≡ self.now) × (other.table ≡ self.now) }
-        ensures joined { pass.new ≡ record pass.old {
-          held = held_both pass.old.held other.held;
-          made = made_both other.held pass.old.made other.made;
-          seen = longer pass.old.seen other.seen;
-          met = pass.old.met ++ other.met;
-        } }
-        ensures apart { AreApart pass.old.held other.held }
-        ensures first { SeesOthers pass.old.held pass.old.seen pass.new.seen }
-        ensures second { SeesOthers other.held other.seen pass.new.seen }
-        ensures lawful { IsLawful T.priority_of pass.new.object pass.new.callers pass.new.seen }
+        ensures { Joins T.priority_of pass.old other pass.new }
     {
         self.shared.join(pass, other)
     }
 
-    /// Waits for the turn, and makes a call. See `Shared::call`.
+    /// Waits for the turn, and makes any call of the channel. It never waits for room or for an
+    /// item.
     ///
-    /// For want of memory, which only the begins and a write to a channel without a capacity can
-    /// meet, there is no entry and the call comes back.
+    /// An answer is the reply and the place of the call's entry. For want of memory, which only the
+    /// begins and a write to a channel without a capacity can meet, there is no entry and the call
+    /// comes back. A caller that has made 2^48 calls does not return.
     pub fn call<R: Wait>(
         &self,
         rt: &R,
@@ -141,24 +138,29 @@ impl<T: Item> Channel<T> {
     ) -> Result<(ChannelReply<T>, Receipt), Unpaid<ChannelCall<T>>>
         requires { pass.old.table ≡ self.now }
         ensures pass { IsSamePass pass.old pass.new }
-        ensures counted { CountsOne pass.old pass.new }
-
-        ensures entry { IfOk result (λ r. Answers T.priority_of
-            (λ tally. fits tally call r.0) pass.old
-            (entry pass.old.caller (call_mark T.mark call) (reply_mark T.mark r.0)) r.1 pass.new) }
-
-        ensures back { IfErr result (λ unpaid. unpaid.back ≡ call) }
-        ensures no_entry { OnErr result (AddsNoEntry T.priority_of pass.old pass.new
-            × (pass.new.met ≡ pass.old.met)) }
-        ensures wanted { OnErr result (may_want pass.old.object (call_mark T.mark call) ≡ true) }
+        ensures called { Calls T.mark T.priority_of pass.old pass.new call result }
     {
+        let _ring = Ring::after(&self.bells, &call);
         self.shared.call(rt, pass, call)
     }
 
-    /// The machine that callers share, for a layer that makes calls of its own on it.
-    pub fn shared(&self) -> &Shared<ChannelMachine<T>>
-        ensures { result.now ≡ self.now }
+    /// Tries once to get the turn, and makes any call of the channel where it came. It waits for
+    /// nobody.
+    ///
+    /// All answers but the first make no entry and hand the call back: [`ChannelTry`] says when
+    /// each comes.
+    pub fn try_call(&self, pass: &mut Pass, call: ChannelCall<T>) -> ChannelTry<T>
+        requires { pass.old.table ≡ self.now }
+        ensures pass { IsSamePass pass.old pass.new }
+        ensures tried { Tries T.mark T.priority_of pass.old pass.new call result }
     {
-        &self.shared
+        let _ring = Ring::after(&self.bells, &call);
+        channel_try(self.shared.try_call(pass, call))
+    }
+
+    /// Wakes all callers that sleep until there is an item or room, so that each looks again at once. Who has
+    /// cancelled many of them calls it, since a caller that sleeps looks at its token only when it wakes.
+    pub fn wake_all(&self) {
+        self.bells.tell_all();
     }
 }

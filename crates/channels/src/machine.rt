@@ -6,7 +6,7 @@ use priority_core::PriorityState;
 
 /// A channel in the order of writing, or by priority.
 #[derive(Drop)]
-pub enum ChannelMachine<T: Item> {
+pub(crate) enum ChannelMachine<T: Item> {
     Ordered(ChannelState<T>),
     Prioritized(PriorityState<T>),
 }

@@ -1,17 +1,13 @@
-// What writers and readers have in common: any call of the channel, by their own pass.
-ghost use Rattle.std.specs.Prelude.{◌≡◌};
-ghost use Rattle.turn_lock.specs.Passes.{PassView};
-ghost use Rattle.turn_lock.specs.Calls.{IsSamePass};
+// What writers and readers have in common.
+ghost use Rattle.passes.specs.Calls.{IsSamePass};
+ghost use Rattle.turn_lock.specs.Passes.{LockPass};
 ghost use Rattle.channels.specs.Calls.{Calls, Tries};
 
-use crate::access::Access;
-use crate::reader::Reader;
 use crate::tries::ChannelTry;
-use crate::writer::Writer;
 use channel_core::{ChannelCall, ChannelReply};
-use ho_base::{Item, Marked, Receipt, Unpaid};
+use ho_base::{Marked, Receipt, Unpaid};
+use pauses::Nap;
 use std::sync::Wait;
-use turn_lock::Attempt;
 
 /// A side of a channel, a writer or a reader, as one thread sees it.
 ///
@@ -20,9 +16,9 @@ use turn_lock::Attempt;
 /// their items.
 pub trait Side<T: Marked>: Drop {
     /// What contracts see of its pass.
-    ghost pass: { Self → PassView };
+    ghost pass: { Self → LockPass };
 
-    /// Waits for the turn, and makes a call. See `Shared::call`.
+    /// Waits for the turn, and makes any call of the channel, as `Channel::call` does.
     fn side_call<R: Wait>(
         &mut self,
         rt: &R,
@@ -31,127 +27,19 @@ pub trait Side<T: Marked>: Drop {
         ensures same { IsSamePass (pass self.old) (pass self.new) }
         ensures called { Calls T.mark T.priority_of (pass self.old) (pass self.new) call result };
 
-    /// Tries once to get the turn, and makes the call where it came. See `Shared::try_call`.
+    /// Tries once to get the turn, and makes any call of the channel where it came, as
+    /// `Channel::try_call` does.
     fn try_side_call(&mut self, call: ChannelCall<T>) -> ChannelTry<T>
         ensures same { IsSamePass (pass self.old) (pass self.new) }
         ensures tried { Tries T.mark T.priority_of (pass self.old) (pass self.new) call result };
-}
 
-impl<'c, T: Item> Side<T> for Access<'c, T> {
-    ghost pass = { λ a. a };
+    /// Notes the place of the begin that left a wait, by its receipt, so that the waits that began first
+    /// are woken first.
+    fn note(&self, receipt: Receipt);
 
-    fn side_call<R: Wait>(
-        &mut self,
-        rt: &R,
-        call: ChannelCall<T>,
-    ) -> Result<(ChannelReply<T>, Receipt), Unpaid<ChannelCall<T>>>
-        ensures same { IsSamePass self.old self.new }
-        ensures called { Calls T.mark T.priority_of self.old self.new call result }
-    {
-        let channel = self.channel;
-        channel.shared.call(rt, &mut self.pass, call)
-    }
+    /// Takes the next pause of a wait.
+    fn nap<R: Wait>(&self, rt: &R, nap: &mut Nap);
 
-    fn try_side_call(&mut self, call: ChannelCall<T>) -> ChannelTry<T>
-        ensures same { IsSamePass self.old self.new }
-        ensures tried { Tries T.mark T.priority_of self.old self.new call result }
-    {
-        let channel = self.channel;
-        match channel.shared.try_call(&mut self.pass, call) {
-            Attempt::Answer(reply, receipt) => ChannelTry::Answer(reply, receipt),
-            Attempt::Busy(back) => ChannelTry::Busy(back),
-            Attempt::Spent(back) => ChannelTry::Spent(back),
-            Attempt::NoMemory(back) => ChannelTry::NoMemory(back),
-        }
-    }
-}
-
-impl<'c, T: Item> Side<T> for Writer<'c, T> {
-    ghost pass = { λ w. w };
-
-    fn side_call<R: Wait>(
-        &mut self,
-        rt: &R,
-        call: ChannelCall<T>,
-    ) -> Result<(ChannelReply<T>, Receipt), Unpaid<ChannelCall<T>>>
-        ensures same { IsSamePass self.old self.new }
-        ensures called { Calls T.mark T.priority_of self.old self.new call result }
-    {
-        self.access.side_call(rt, call)
-    }
-
-    fn try_side_call(&mut self, call: ChannelCall<T>) -> ChannelTry<T>
-        ensures same { IsSamePass self.old self.new }
-        ensures tried { Tries T.mark T.priority_of self.old self.new call result }
-    {
-        self.access.try_side_call(call)
-    }
-}
-
-impl<'c, T: Item> Side<T> for Reader<'c, T> {
-    ghost pass = { λ r. r };
-
-    fn side_call<R: Wait>(
-        &mut self,
-        rt: &R,
-        call: ChannelCall<T>,
-    ) -> Result<(ChannelReply<T>, Receipt), Unpaid<ChannelCall<T>>>
-        ensures same { IsSamePass self.old self.new }
-        ensures called { Calls T.mark T.priority_of self.old self.new call result }
-    {
-        self.access.side_call(rt, call)
-    }
-
-    fn try_side_call(&mut self, call: ChannelCall<T>) -> ChannelTry<T>
-        ensures same { IsSamePass self.old self.new }
-        ensures tried { Tries T.mark T.priority_of self.old self.new call result }
-    {
-        self.access.try_side_call(call)
-    }
-}
-
-impl<'c, T: Item> Writer<'c, T> {
-    /// Waits for the turn, and makes any call of the channel. See `Shared::call`.
-    pub fn call<R: Wait>(
-        &mut self,
-        rt: &R,
-        call: ChannelCall<T>,
-    ) -> Result<(ChannelReply<T>, Receipt), Unpaid<ChannelCall<T>>>
-        ensures pass { IsSamePass self.old self.new }
-        ensures called { Calls T.mark T.priority_of self.old self.new call result }
-    {
-        self.side_call(rt, call)
-    }
-
-    /// Tries once to get the turn, and makes any call of the channel where it came. See
-    /// `Shared::try_call`.
-    pub fn try_call(&mut self, call: ChannelCall<T>) -> ChannelTry<T>
-        ensures pass { IsSamePass self.old self.new }
-        ensures tried { Tries T.mark T.priority_of self.old self.new call result }
-    {
-        self.try_side_call(call)
-    }
-}
-
-impl<'c, T: Item> Reader<'c, T> {
-    /// Waits for the turn, and makes any call of the channel. See `Shared::call`.
-    pub fn call<R: Wait>(
-        &mut self,
-        rt: &R,
-        call: ChannelCall<T>,
-    ) -> Result<(ChannelReply<T>, Receipt), Unpaid<ChannelCall<T>>>
-        ensures pass { IsSamePass self.old self.new }
-        ensures called { Calls T.mark T.priority_of self.old self.new call result }
-    {
-        self.side_call(rt, call)
-    }
-
-    /// Tries once to get the turn, and makes any call of the channel where it came. See
-    /// `Shared::try_call`.
-    pub fn try_call(&mut self, call: ChannelCall<T>) -> ChannelTry<T>
-        ensures pass { IsSamePass self.old self.new }
-        ensures tried { Tries T.mark T.priority_of self.old self.new call result }
-    {
-        self.try_side_call(call)
-    }
+    /// Ends the pauses of a wait.
+    fn wake(&self, nap: &mut Nap);
 }

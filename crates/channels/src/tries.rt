@@ -1,10 +1,10 @@
 // One try of a call on a channel.
 ghost use Rattle.std.specs.Prelude.{◌≡◌};
+ghost use Rattle.channels.specs.Calls.{attempt_of};
 
-use crate::channel::Channel;
 use channel_core::{ChannelCall, ChannelReply};
-use ho_base::{Item, Receipt};
-use turn_lock::{Attempt, Pass};
+use ho_base::Receipt;
+use turn_lock::Attempt;
 
 /// What one try of a call on a channel answers. All but the first make no entry and hand the call
 /// back.
@@ -12,29 +12,22 @@ use turn_lock::{Attempt, Pass};
 pub enum ChannelTry<T> {
     /// The reply, and the place of its entry.
     Answer(ChannelReply<T>, Receipt),
-    /// Another caller had the turn, or a ticket for it.
+    /// Another caller had the turn, or a ticket for it. A pass that holds all numbers never meets
+    /// this.
     Busy(ChannelCall<T>),
-    /// The caller has made as many calls as it may.
+    /// The caller has made 2^48 calls, as many as it may. Its try did nothing.
     Spent(ChannelCall<T>),
     /// There was no memory for a begin, or for a write to a channel without a capacity.
     NoMemory(ChannelCall<T>),
 }
 
-impl<T: Item> Channel<T> {
-    ghost use Rattle.turn_lock.specs.Calls.{IsSamePass};
-    ghost use Rattle.channels.specs.Calls.{Tries};
-
-    /// Tries once to get the turn, and makes the call where it came. See `Shared::try_call`.
-    pub fn try_call(&self, pass: &mut Pass, call: ChannelCall<T>) -> ChannelTry<T>
-        requires { pass.old.table ≡ self.now }
-        ensures pass { IsSamePass pass.old pass.new }
-        ensures tried { Tries T.mark T.priority_of pass.old pass.new call result }
-    {
-        match self.shared.try_call(pass, call) {
-            Attempt::Answer(reply, receipt) => ChannelTry::Answer(reply, receipt),
-            Attempt::Busy(back) => ChannelTry::Busy(back),
-            Attempt::Spent(back) => ChannelTry::Spent(back),
-            Attempt::NoMemory(back) => ChannelTry::NoMemory(back),
-        }
+pub(crate) fn channel_try<T>(attempt: Attempt<ChannelCall<T>, ChannelReply<T>>) -> ChannelTry<T>
+    ensures { attempt_of result ≡ attempt }
+{
+    match attempt {
+        Attempt::Answer(reply, receipt) => ChannelTry::Answer(reply, receipt),
+        Attempt::Busy(back) => ChannelTry::Busy(back),
+        Attempt::Spent(back) => ChannelTry::Spent(back),
+        Attempt::NoMemory(back) => ChannelTry::NoMemory(back),
     }
 }

@@ -4,7 +4,7 @@ use Rattle.std.specs.List.{sum}
 use Rattle.std.proofs.lemmas.List.Sums.{sum_by-cons, sum_by-set}
 use mathlib.Core.Logic.{dite}
 use native.Mathlib.Decide.{ℕ_discrete}
-use Rattle.passes.specs.Numbers.{HasNumber, AreApart, held_count, only, first_held, give, held_both, made_both, raised}
+use Rattle.passes.specs.Numbers.{HasNumber, HasAll, AreApart, held_count, only, first_held, give, held_both, made_both, raised}
 
 pub by_flag : {T : Type 0} (b : Bool) → (b ≡ true → T) → (b ≡ false → T) → T
 by_flag true f g = f refl
@@ -183,6 +183,34 @@ held_count-both (x ∷ xs) (y ∷ ys) apart =
     one_flag true false h = refl
     one_flag false true h = refl
     one_flag false false h = refl
+
+-- numbers below n are no more than n, and n of them are all
+count_below : (n : ℕ) (xs : List Bool) → ((c : ℕ) → HasNumber xs c → c < n) → held_count xs ≤ n
+count_below n [] below = omega arith
+count_below zero (true ∷ xs) below = let no = below 0 refl in absurd (omega arith)
+count_below zero (false ∷ xs) below = let e = held_count-cons false xs in let t = count_below zero xs (λ c has. let no = below (suc c) has in absurd (omega arith)) in omega arith
+count_below (suc n) (x ∷ xs) below = let e = held_count-cons x xs in let t = count_below n xs (λ c has. let lt = below (suc c) has in omega arith) in let b = one x in omega arith
+  where
+    one : (b : Bool) → cond b 1 0 ≤ 1
+    one true = omega arith
+    one false = omega arith
+
+pub whole_by_count : (n : ℕ) (xs : List Bool) → held_count xs ≡ n → ((c : ℕ) → HasNumber xs c → c < n) → HasAll n xs
+whole_by_count n [] count below c lt = absurd (omega arith)
+whole_by_count zero (x ∷ xs) count below c lt = absurd (omega arith)
+whole_by_count (suc n) (true ∷ xs) count below zero lt = refl
+whole_by_count (suc n) (true ∷ xs) count below (suc c) lt =
+    let e = held_count-cons true xs in whole_by_count n xs (omega arith) (λ d has. let l = below (suc d) has in omega arith) c (omega arith)
+whole_by_count (suc n) (false ∷ xs) count below c lt =
+    let e = held_count-cons false xs in let t = count_below n xs (λ d has. let l = below (suc d) has in omega arith) in absurd (omega arith)
+
+-- counts that are nowhere less than others add up to no less
+pub sum-le : (xs ys : List ℕ) → length xs ≤ length ys → ((c : ℕ) → c < length xs → get_or xs c 0 ≤ get_or ys c 0) → sum xs ≤ sum ys
+sum-le [] ys short less = omega arith
+sum-le (x ∷ xs) [] short less = absurd (omega arith)
+sum-le (x ∷ xs) (y ∷ ys) short less =
+    let a = sum_by-cons (λ (n : ℕ). n) x xs in let b = sum_by-cons (λ (n : ℕ). n) y ys in let h : x ≤ y = less 0 (omega arith) in
+    let t = sum-le xs ys (omega arith) (λ c lt. less (suc c) (omega arith)) in omega arith
 
 -- flags that go up one after another
 up : (i l : ℕ) → set (replicate i true ++ replicate (suc l) false) i true ≡ replicate (suc i) true ++ replicate l false

@@ -5,7 +5,7 @@ use Rattle.std.proofs.lemmas.Bool.{leb-true, leb-false}
 use mathlib.Core.Logic.{dite}
 use native.Mathlib.Decide.{ℕ_discrete}
 use Rattle.ho_model.specs.declared.marks.EntryMark.{EntryMark}
-use Rattle.passes.specs.Numbers.{HasNumber, raised, only, give, held_both, made_both}
+use Rattle.passes.specs.Numbers.{HasNumber, HasAll, raised, only, give, held_both, made_both}
 use Rattle.passes.specs.Seen.{AreOthers, SeesOthers, longer}
 use Rattle.passes.specs.Holders.{Holder, Meet, split_owner, join_owner}
 use Rattle.passes.proofs.Flags.{by_flag, not_held, only_one, down_held, both_up, made_both_at, made_both_length, raised_here, raised_else}
@@ -100,6 +100,11 @@ module _ (n : ℕ) (log : List EntryMark) (made : List ℕ) (owner : ℕ → ℕ
     agrees = λ c up. absurd (true≢false (sym up));
     wide = h.wide;
   }
+
+-- a seat that holds all numbers is the only one that holds any
+pub whole_alone : {n : ℕ} {log : List EntryMark} {made : List ℕ} {owner : ℕ → ℕ} {me other : ℕ} {held held' : List Bool} {counts counts' : List ℕ} {seen seen' : List EntryMark}
+    → Holder n log made owner me held counts seen → Holder n log made owner other held' counts' seen' → HasAll n held → (c : ℕ) → HasNumber held' c → other ≡ me
+whole_alone v w whole c has = let theirs = w.owns c has in sym theirs.0 ∙ (v.owns c (whole c theirs.1)).0
 
 -- a join of two seats
 module _ (n : ℕ) (log : List EntryMark) (made : List ℕ) (owner : ℕ → ℕ) (me other : ℕ) (held held' : List Bool) (counts counts' : List ℕ) (seen seen' : List EntryMark)

@@ -1,6 +1,11 @@
 pub mod Flags
 pub mod Seen
 pub mod Seats
+pub mod Sums
 pub mod Holders
 pub mod Owned
+pub mod Places
+pub mod Saw
 pub mod Starts
+pub mod Calls
+pub mod Repeats

@@ -14,7 +14,7 @@ pub length-replicate : {A : Type 0} (n : ℕ) (a : A) → length (replicate n a)
 length-replicate zero a = refl
 length-replicate (suc n) a = ap suc (length-replicate n a)
 
-first_below : (n m c : ℕ) → HasNumber (replicate n true ++ replicate m false) c → c < n
+pub first_below : (n m c : ℕ) → HasNumber (replicate n true ++ replicate m false) c → c < n
 first_below zero m c e = absurd (true≢false (sym e ∙ flag_none m c))
 first_below (suc n) m zero e = omega arith
 first_below (suc n) m (suc c) e = let h = first_below n m c e in omega arith

@@ -1,3 +1,9 @@
 pub mod Numbers
 pub mod Seen
+pub mod Views
+pub mod Calls
+pub mod Repeats
 pub mod Holders
+pub mod Seats
+pub mod Places
+pub mod Laws

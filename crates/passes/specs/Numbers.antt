@@ -9,6 +9,10 @@ HasNumber held c = slice_index_or held c false ≡ true
 abbrev pub HasAll : ℕ → List Bool → Type 0
 HasAll n held = (c : ℕ) → c < n → HasNumber held c
 
+-- each number that is held is below n
+abbrev pub HoldsBelow : ℕ → List Bool → Type 0
+HoldsBelow n held = (c : ℕ) → HasNumber held c → c < n
+
 -- a number that is held beside the caller's own
 abbrev pub IsSpare : List Bool → ℕ → ℕ → Type 0
 IsSpare held caller c = HasNumber held c × (c ≢ caller)
@@ -49,3 +53,15 @@ made_both (flag ∷ flags) (x ∷ xs) (y ∷ ys) = (if flag then y else x) ∷ m
 -- one call more of the caller c is counted
 abbrev pub raised : List ℕ → ℕ → List ℕ
 raised made c = slice_set made c (slice_index made c + 1)
+
+-- What contracts see of the numbers of a pass: the one under which it calls, how many callers its
+-- object has, at each number below 64 whether it is held, and how many calls were counted under it.
+pub record NumbersView : Type 0 where
+  pub caller : ℕ
+  pub callers : ℕ
+  pub held : List Bool
+  pub made : List ℕ
+
+-- those of the first pass of an object: caller 0 holds all numbers, and no call was made
+abbrev pub first_numbers : ℕ → NumbersView
+first_numbers n = record { caller = 0; callers = n; held = first_held n; made = replicate 64 0 }

@@ -1,55 +1,31 @@
 -- A pass that is split is two passes, and two that are joined are one.
-use Rattle.std.proofs.Common.{◌≡◌, ◌≢◌, ℕ, ◌<◌, List, [], ◌∷◌, replicate, Bool, false, sym, refl, ap, ◌∙◌, subst, true, length-set}
-use Rattle.passes.specs.Numbers.{only, give, held_both, made_both}
-use Rattle.passes.proofs.Flags.{flag_else, only_has, both_left, held_both_length, made_both_length}
+use Rattle.std.proofs.Common.{◌≡◌, List, [], ◌∷◌, sym, refl, subst}
+use Rattle.passes.specs.Numbers.{NumbersView, only, held_both, made_both}
 use Rattle.turn_lock.specs.declared.view.View.{View}
 use Rattle.turn_lock.specs.declared.view.Turn.TheVariants.{Idle}
-use Rattle.turn_lock.specs.Views.{without, alone, joined, in_turn}
+use Rattle.turn_lock.specs.Views.{alone, joined, in_turn}
 use Rattle.turn_lock.specs.Passes.{IsPass}
 
--- a pass from its one view
-pass_of : (views : List View) (v : View) (caller callers : ℕ) (held : List Bool) (made : List ℕ) → views ≡ v ∷ [] → IsPass (v ∷ []) caller callers held made → IsPass views caller callers held made
-pass_of views v caller callers held made is p = subst (λ (l : List View). IsPass l caller callers held made) (sym is) p
+-- a pass from its one view, and the view's fields from a pass
+pass_of : (views : List View) (v : View) (numbers : NumbersView) → views ≡ v ∷ [] → IsPass (v ∷ []) numbers → IsPass views numbers
+pass_of views v numbers is p = subst (λ (l : List View). IsPass l numbers) (sym is) p
 
-module _ (views views' : List View) (v : View) (number caller callers : ℕ) (held : List Bool) (made : List ℕ) (p : IsPass views caller callers held made) (one : views ≡ v ∷ []) where
-  here : IsPass (v ∷ []) caller callers held made
-  here = subst (λ (l : List View). IsPass l caller callers held made) one p
+fields_of : (views : List View) (v : View) (numbers : NumbersView) → views ≡ v ∷ [] → IsPass views numbers → IsPass (v ∷ []) numbers
+fields_of views v numbers is p = subst (λ (l : List View). IsPass l numbers) is p
 
-  pub right_pass : (held' : List Bool) → number < 64 → views' ≡ alone v number ∷ [] → held' ≡ only number → IsPass views' number callers held' made
-  right_pass held' low one' is = subst (λ (h : List Bool). IsPass views' number callers h made) (sym is) (pass_of views' (alone v number) number callers (only number) made one'
-      record {
-        one = refl;
-        idle = refl;
-        is_caller = refl;
-        is_callers = here.is_callers;
-        is_held = refl;
-        is_made = here.is_made;
-        active = only_has number low;
-        inside = low;
-        few = here.few;
-        wide = (length-set (replicate 64 false) number true, here.wide.1);
-      })
+pub right_pass : (views views' : List View) (v : View) (numbers numbers' : NumbersView) → IsPass views numbers → views ≡ v ∷ [] → views' ≡ alone v numbers'.caller ∷ []
+    → numbers' ≡ record numbers { caller = numbers'.caller; held = only numbers'.caller } → IsPass views' numbers'
+right_pass views views' v numbers numbers' p one one' is =
+    let a = fields_of views v numbers one p in
+    subst (λ (x : NumbersView). IsPass views' x) (sym is) (pass_of views' (alone v numbers'.caller) record numbers { caller = numbers'.caller; held = only numbers'.caller } one'
+    record { one = refl; idle = refl; is_caller = refl; is_callers = a.is_callers; is_held = refl; is_made = a.is_made })
 
-  pub left_pass : number ≢ caller → views' ≡ without v number ∷ [] → IsPass views' caller callers (give held number) made
-  left_pass ne one' = pass_of views' (without v number) caller callers (give held number) made one'
-      record {
-        one = refl;
-        idle = here.idle;
-        is_caller = here.is_caller;
-        is_callers = here.is_callers;
-        is_held = ap (λ (h : List Bool). give h number) here.is_held;
-        is_made = here.is_made;
-        active = flag_else held number caller (λ e. ne (sym e)) false ∙ here.active;
-        inside = here.inside;
-        few = here.few;
-        wide = (length-set held number false ∙ here.wide.0, here.wide.1);
-      }
-
-pub joined_pass : (views views1 views' : List View) (v w : View) (caller callers caller1 callers1 : ℕ) (held held1 : List Bool) (made made1 : List ℕ)
-    → IsPass views caller callers held made → IsPass views1 caller1 callers1 held1 made1 → views ≡ v ∷ [] → views1 ≡ w ∷ [] → views' ≡ in_turn (joined v w) Idle ∷ []
-    → IsPass views' caller callers (held_both held held1) (made_both held1 made made1)
-joined_pass views views1 views' v w caller callers caller1 callers1 held held1 made made1 p q one one1 one' =
-    pass_of views' (in_turn (joined v w) Idle) caller callers (held_both held held1) (made_both held1 made made1) one'
+pub joined_pass : (views views1 views' : List View) (v w : View) (numbers numbers1 numbers' : NumbersView)
+    → IsPass views numbers → IsPass views1 numbers1 → views ≡ v ∷ [] → views1 ≡ w ∷ [] → views' ≡ in_turn (joined v w) Idle ∷ []
+    → numbers' ≡ record numbers { held = held_both numbers.held numbers1.held; made = made_both numbers1.held numbers.made numbers1.made } → IsPass views' numbers'
+joined_pass views views1 views' v w numbers numbers1 numbers' p q one one1 one' is =
+    let a = fields_of views v numbers one p in let b = fields_of views1 w numbers1 one1 q in
+    subst (λ (x : NumbersView). IsPass views' x) (sym is) (pass_of views' (in_turn (joined v w) Idle) record numbers { held = held_both numbers.held numbers1.held; made = made_both numbers1.held numbers.made numbers1.made } one'
     record {
       one = refl;
       idle = refl;
@@ -57,14 +33,4 @@ joined_pass views views1 views' v w caller callers caller1 callers1 held held1 m
       is_callers = a.is_callers;
       is_held = λ i. held_both (a.is_held i) (b.is_held i);
       is_made = λ i. made_both (b.is_held i) (a.is_made i) (b.is_made i);
-      active = both_left held held1 caller p.active;
-      inside = p.inside;
-      few = p.few;
-      wide = (held_both_length held held1 (p.wide.0 ∙ sym q.wide.0) ∙ p.wide.0, made_both_length held1 made made1 ∙ p.wide.1);
-    }
-  where
-    a : IsPass (v ∷ []) caller callers held made
-    a = subst (λ (l : List View). IsPass l caller callers held made) one p
-
-    b : IsPass (w ∷ []) caller1 callers1 held1 made1
-    b = subst (λ (l : List View). IsPass l caller1 callers1 held1 made1) one1 q
+    })

@@ -22,7 +22,7 @@ use Rattle.turn_lock.specs.declared.view.Turn.TheVariants.{Idle, Drawn, Holds}
 use Rattle.turn_lock.specs.Views.{HasTicket, HasTurn, IsWhole, in_turn, holding, entered}
 use Rattle.turn_lock.specs.Rule.{TurnFact, Knows, Kept}
 use Rattle.turn_lock.specs.Plays.{Got, reached, adds, left}
-use Rattle.turn_lock.proofs.TurnFacts.{holds_one, drawn_one, drawn_waits, one_ticket, has_turn, turn_passes}
+use Rattle.turn_lock.proofs.TurnFacts.{holds_one, drawn_one, drawn_waits, one_ticket, has_turn, turn_passes, read_later}
 use Rattle.turn_lock.proofs.Laws.{mod-lt-is, word_at, few_tickets}
 
 module _ {S : Type 0} (pr : Mark → ℕ) (stands : Object → ℕ → S → List EntryMark → Type 0) (o : Object) (n : ℕ) where
@@ -73,6 +73,7 @@ module _ {S : Type 0} (pr : Mark → ℕ) (stands : Object → ℕ → S → Lis
             of_object = waiting.of_object;
             of_callers = waiting.of_callers;
             holder = holder_sees n r.log r.made r.owner id v.held v.made v.seen waiting.holder;
+            obstacles = waiting.obstacles;
             at_turn = (sym is, lt, f.2, f.3, refl, omega arith);
           }
           (λ j u not e. r.knows j u e);
@@ -143,6 +144,7 @@ module _ {S : Type 0} (pr : Mark → ℕ) (stands : Object → ℕ → S → Lis
         of_object = x.of_object;
         of_callers = x.of_callers;
         holder = others_enter n r.log r.made r.owner j u.held u.made u.seen x.holder id e not owner_is;
+        obstacles = x.obstacles;
         at_turn = turn_passes r.serving r.ticket r.log r.server j u.seen (HasNumber u.held u.caller) (IsWhole u) log' r.serving
             (λ same. not (sym same ∙ (ap r.server (sym fact.0) ∙ fact.2))) (le_refl r.serving) (omega arith) (λ _. refl) u.turn x.at_turn;
       }
@@ -163,6 +165,7 @@ module _ {S : Type 0} (pr : Mark → ℕ) (stands : Object → ℕ → S → Lis
           agrees = x.holder.agrees;
           wide = x.holder.wide;
         };
+        obstacles = x.obstacles;
         at_turn = (fact.0, fact.1, fact.2, fact.3, seen_is, omega (arith, length-append r.log (e ∷ [])));
       }
 
@@ -206,6 +209,7 @@ module _ {S : Type 0} (pr : Mark → ℕ) (stands : Object → ℕ → S → Lis
         of_object = y.of_object;
         of_callers = y.of_callers;
         holder = y.holder;
+        obstacles = read_later r.serving r.ticket (r.serving + 1) r.ticket u.met (omega arith) (le_refl r.ticket) y.obstacles;
         at_turn = turn_passes r.serving r.ticket r.log r.server j u.seen (HasNumber u.held u.caller) (IsWhole u) r.log (r.serving + 1)
             (λ same. not (sym same ∙ (ap r.server (sym turn_fact.0) ∙ turn_fact.2))) (omega arith) (le_refl (r.serving + 1))
             (λ whole. let z = holding_at.holder.owns m.0.caller turn_fact.3 in
@@ -234,7 +238,13 @@ module _ {S : Type 0} (pr : Mark → ℕ) (stands : Object → ℕ → S → Lis
             let ne : r.server t ≢ id = (λ here. let one = one_ticket m.0.turn t k (subst (λ (z : View). HasTicket z.turn t) (one_view s.views (r.server t) id q.0 m.0 q.1 at here) q.2) turn in omega arith) in
             (q.0, set_else s.views id (r.server t) idle ne ∙ q.1, q.2);
         knows = seats_stay (Knows o n (r.serving + 1) r.ticket r.log r.made r.owner r.server) s.views id idle
-            record { of_object = y.of_object; of_callers = y.of_callers; holder = y.holder; at_turn = tt }
+            record {
+              of_object = y.of_object;
+              of_callers = y.of_callers;
+              holder = y.holder;
+              obstacles = read_later r.serving r.ticket (r.serving + 1) r.ticket m.0.met (omega arith) (le_refl r.ticket) y.obstacles;
+              at_turn = tt;
+            }
             (λ j u not z. leave_others j u not (r.knows j u z));
       }
 

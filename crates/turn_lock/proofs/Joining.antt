@@ -1,5 +1,6 @@
 -- A split, a join and the load after it keep the rule.
 use Rattle.std.proofs.Common.{◌≡◌, ◌≢◌, ℕ, List, [], ◌∷◌, ◌++◌, length, set, sym, refl, ◌∙◌, subst, inl, inr, ⊎_elim}
+use Rattle.std.proofs.lemmas.List.Elements.{All-nil, All-append}
 use mathlib.Core.Option.{some, none}
 use lib.ListN.{get_elem?}
 use lib.Seq.{set-get_or}
@@ -16,7 +17,7 @@ use Rattle.turn_lock.specs.declared.view.View.{View}
 use Rattle.turn_lock.specs.declared.view.Turn.{Turn}
 use Rattle.turn_lock.specs.declared.view.Turn.TheVariants.{Idle}
 use Rattle.turn_lock.specs.Views.{HasTicket, HasTurn, IsWhole, in_turn, without, alone, joined, gone}
-use Rattle.turn_lock.specs.Rule.{TurnFact, Knows, Kept}
+use Rattle.turn_lock.specs.Rule.{TurnFact, WasOut, Knows, Kept}
 use Rattle.turn_lock.specs.Plays.{told}
 use Rattle.turn_lock.proofs.TurnFacts.{idle_free, turn_ticket}
 use Rattle.turn_lock.proofs.Laws.{lawful_of, quiet}
@@ -43,6 +44,7 @@ module _ {S : Type 0} (pr : Mark → ℕ) (stands : Object → ℕ → S → Lis
       of_object = known.of_object;
       of_callers = known.of_callers;
       holder = holder_left n r.log r.made r.owner id v.held v.made v.seen known.holder c fresh;
+      obstacles = known.obstacles;
       at_turn = subst (λ (t : Turn). TurnFact r.serving r.ticket r.log r.server id v.seen (HasNumber (give v.held c) v.caller) (IsWhole (without v c)) t) (sym idle) tt;
     }
 
@@ -51,6 +53,7 @@ module _ {S : Type 0} (pr : Mark → ℕ) (stands : Object → ℕ → S → Lis
       of_object = known.of_object;
       of_callers = known.of_callers;
       holder = holder_right n r.log r.made r.owner id v.held v.made v.seen known.holder c fresh spare.0;
+      obstacles = All-nil (WasOut r.serving r.ticket);
       at_turn = tt;
     }
 
@@ -59,6 +62,7 @@ module _ {S : Type 0} (pr : Mark → ℕ) (stands : Object → ℕ → S → Lis
       of_object = x.of_object;
       of_callers = x.of_callers;
       holder = holder_split n r.log r.made r.owner j u.held u.made u.seen x.holder c fresh id not (known.holder.owns c spare.0).0;
+      obstacles = x.obstacles;
       at_turn = x.at_turn;
     }
 
@@ -118,6 +122,7 @@ module _ {S : Type 0} (pr : Mark → ℕ) (stands : Object → ℕ → S → Lis
       of_object = kv.of_object;
       of_callers = kv.of_callers;
       holder = holder_both n r.log r.made r.owner id other v.held w.held v.made w.made v.seen w.seen kv.holder kw.holder;
+      obstacles = All-append (WasOut r.serving r.ticket) v.met w.met kv.obstacles kw.obstacles;
       at_turn = holders_meet n r.log r.made r.owner id other v.held w.held v.made w.made v.seen w.seen kv.holder kw.holder (λ e. apart (sym e));
     }
 
@@ -126,6 +131,7 @@ module _ {S : Type 0} (pr : Mark → ℕ) (stands : Object → ℕ → S → Lis
       of_object = kw.of_object;
       of_callers = kw.of_callers;
       holder = holder_gone n r.log r.made r.owner other w.held w.made w.seen kw.holder one_owner;
+      obstacles = kw.obstacles;
       at_turn = tt;
     }
 
@@ -134,6 +140,7 @@ module _ {S : Type 0} (pr : Mark → ℕ) (stands : Object → ℕ → S → Lis
       of_object = x.of_object;
       of_callers = x.of_callers;
       holder = holder_joined n r.log r.made r.owner id other v.held w.held v.made w.made v.seen w.seen kv.holder kw.holder j u.held u.made u.seen not' x.holder;
+      obstacles = x.obstacles;
       at_turn = x.at_turn;
     }
 
@@ -176,7 +183,7 @@ module _ {S : Type 0} (pr : Mark → ℕ) (stands : Object → ℕ → S → Lis
   pub tells : (slots id : ℕ) (m : Me S View) → ((t : ℕ) → HasTicket m.0.turn t → ⊥) → Allows Rule slots id m 16 (λ x. x) (told pr (step slots 16 0 0 none) m)
   tells slots id m free s r _ at _ =
       let k = r.knows id m.0 at in
-      let after = quiet pr stands o n s r id m.0 (in_turn m.0 Idle) at free record { of_object = k.of_object; of_callers = k.of_callers; holder = k.holder; at_turn = tt } in (
+      let after = quiet pr stands o n s r id m.0 (in_turn m.0 Idle) at free record { of_object = k.of_object; of_callers = k.of_callers; holder = k.holder; obstacles = k.obstacles; at_turn = tt } in (
         in_turn m.0 Idle,
         keeps,
         tt,

@@ -1,5 +1,5 @@
 -- What the rule says, put to use.
-use Rattle.std.proofs.Common.{◌≡◌, ℕ, ◌%◌, ◌^◌, ◌*◌, ◌<◌, ◌≤◌, List, length, get_or, set, sym, ap, ◌∙◌, subst, inl, inr, ⊎_elim, arith, le_refl}
+use Rattle.std.proofs.Common.{◌≡◌, ℕ, ◌%◌, ◌^◌, ◌*◌, ◌<◌, ◌≤◌, List, length, get_or, set, sym, ap, subst, inl, inr, ⊎_elim, arith, le_refl}
 use Rattle.std.proofs.Math.Nat.{mod-eq_of_lt}
 use mathlib.Core.Logic.{dite}
 use mathlib.Core.Option.{some}
@@ -9,9 +9,10 @@ use Rattle.atomic_table.specs.Table.{State}
 use Rattle.ho_base.specs.Marks.{Mark}
 use Rattle.ho_model.specs.declared.marks.EntryMark.{EntryMark}
 use Rattle.ho_model.specs.declared.objects.Object.{Object}
-use Rattle.passes.specs.Numbers.{HasNumber}
+use Rattle.passes.specs.Numbers.{HasNumber, HasAll}
 use Rattle.passes.specs.Seen.{IsLawful}
 use Rattle.passes.proofs.Flags.{sum-bound}
+use Rattle.passes.proofs.Holders.{whole_alone}
 use Rattle.passes.proofs.Seen.{lawful_seen}
 use Rattle.passes.proofs.Seats.{seats_stay, some_seat, one_view}
 use Rattle.turn_lock.specs.declared.view.View.{View}
@@ -55,9 +56,8 @@ module _ {S : Type 0} (pr : Mark → ℕ) (stands : Object → ℕ → S → Lis
       let q = r.queue r.serving (le_refl r.serving) lt in
       let t = ticket_of s r (r.server r.serving) r.serving q.0 q.1 q.2 in
       let k = r.knows me v at in let u = r.knows (r.server r.serving) q.0 q.1 in
-      let theirs = u.holder.owns q.0.caller t.3 in
-      let own = k.holder.owns q.0.caller (whole q.0.caller (subst (λ (z : ℕ). q.0.caller < z) (sym k.of_callers) theirs.1)) in
-      let same : q.0 ≡ v = one_view s.views (r.server r.serving) me q.0 v q.1 at (sym theirs.0 ∙ own.0) in
+      let alone : r.server r.serving ≡ me = whole_alone k.holder u.holder (subst (λ (z : ℕ). HasAll z v.held) k.of_callers whole) q.0.caller t.3 in
+      let same : q.0 ≡ v = one_view s.views (r.server r.serving) me q.0 v q.1 at alone in
       absurd (free r.serving (subst (λ (x : View). HasTicket x.turn r.serving) same q.2)))
 
   -- a step that changes no word, of a seat that has no ticket before and none after

@@ -4,6 +4,5 @@ pub mod Tickets
 pub mod Holding
 pub mod Joining
 pub mod Ends
-pub mod Serving
+pub mod UnderTurn
 pub mod Halves
-pub mod Told

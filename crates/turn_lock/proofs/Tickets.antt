@@ -1,5 +1,7 @@
 -- A look, a ticket try and a ticket draw keep the rule.
 use Rattle.std.proofs.Common.{◌≡◌, ◌≢◌, ℕ, ◌+◌, ◌%◌, ◌^◌, ◌<◌, ◌≤◌, eqb, cond, List, ◌∷◌, length, get_or, set, Bool, sym, refl, ap, ◌∙◌, subst, inl, inr, ⊎_elim, arith, eq-eqb, ne_eqb, le_refl, length-set}
+use Rattle.std.specs.Prelude.{All}
+use Rattle.std.proofs.lemmas.List.Elements.{All-push}
 use mathlib.Core.Logic.{dite}
 use mathlib.Core.Option.{some, none}
 use native.Mathlib.Decide.{ℕ_discrete}
@@ -20,10 +22,10 @@ use Rattle.turn_lock.specs.declared.view.View.{View}
 use Rattle.turn_lock.specs.declared.view.Turn.{Turn}
 use Rattle.turn_lock.specs.declared.view.Turn.TheVariants.{Idle, Looked}
 use Rattle.turn_lock.specs.Views.{HasTicket, HasTurn, IsWhole, in_turn, counted, drawn, holding, met}
-use Rattle.turn_lock.specs.Rule.{TurnFact, Knows, Kept}
+use Rattle.turn_lock.specs.Rule.{TurnFact, WasOut, Knows, Kept}
 use Rattle.std.specs.List.{sum}
 use Rattle.turn_lock.specs.Plays.{Got, looked, tried, grabbed, drew}
-use Rattle.turn_lock.proofs.TurnFacts.{idle_free, looked_free, turn_ticket, turn_stays}
+use Rattle.turn_lock.proofs.TurnFacts.{idle_free, looked_free, turn_ticket, turn_stays, read_later}
 use Rattle.turn_lock.proofs.Laws.{mod-lt-is, word_at, few_tickets, lawful_of, ticket_of, whole_finds, quiet}
 
 module _ {S : Type 0} (pr : Mark → ℕ) (stands : Object → ℕ → S → List EntryMark → Type 0) (o : Object) (n : ℕ) where
@@ -34,7 +36,7 @@ module _ {S : Type 0} (pr : Mark → ℕ) (stands : Object → ℕ → S → Lis
   looks_at s r id m idle at =
       let k = r.knows id m.0 at in
       quiet pr stands o n s r id m.0 (in_turn m.0 (Looked r.serving)) at (idle_free m.0.turn idle)
-      record { of_object = k.of_object; of_callers = k.of_callers; holder = k.holder; at_turn = (le_refl r.serving, λ whole. refl) }
+      record { of_object = k.of_object; of_callers = k.of_callers; holder = k.holder; obstacles = k.obstacles; at_turn = (le_refl r.serving, λ whole. refl) }
 
   pub looks : (slots id : ℕ) (m : Me S View) → m.0.turn ≡ Idle → Allows Rule slots id m 16 (λ x. x) (looked (step slots 16 0 0 none) m)
   looks slots id m idle s r _ at _ =
@@ -78,9 +80,13 @@ module _ {S : Type 0} (pr : Mark → ℕ) (stands : Object → ℕ → S → Lis
       of_object = x.of_object;
       of_callers = x.of_callers;
       holder = others_count n r.log r.made r.owner j u.held u.made u.seen x.holder id v.caller inside_made not (known_at.holder.owns v.caller active).0;
+      obstacles = read_later r.serving r.ticket r.serving (k + 1) u.met (le_refl r.serving) (omega arith) x.obstacles;
       at_turn = turn_stays r.serving r.ticket r.log r.server j u.seen (HasNumber u.held u.caller) (IsWhole u) (k + 1) server' (omega arith)
           (λ t lt e. server_else t (λ (same : t ≡ k). omega arith) ∙ e) u.turn x.at_turn;
     }
+
+    obstacles' : r.ticket ≡ k → All (WasOut r.serving (k + 1)) v.met
+    obstacles' is = read_later r.serving r.ticket r.serving (k + 1) v.met (le_refl r.serving) (omega arith) known_at.obstacles
 
     few' : r.ticket ≡ k → k + 1 ≤ sum made'
     few' is = let a = sum-raised r.made v.caller inside_made in let few = r.few in omega arith
@@ -127,6 +133,7 @@ module _ {S : Type 0} (pr : Mark → ℕ) (stands : Object → ℕ → S → Lis
               of_object = known_at.of_object;
               of_callers = known_at.of_callers;
               holder = holder_counts n r.log r.made r.owner id v.held v.made v.seen known_at.holder v.caller inside_made low_caller active;
+              obstacles = obstacles' is;
               at_turn = (omega arith, omega arith, server_here k refl, active);
             }
             (λ j u not e. other_knows j u not is (r.knows j u e));
@@ -150,6 +157,7 @@ module _ {S : Type 0} (pr : Mark → ℕ) (stands : Object → ℕ → S → Lis
         of_object = known_at.of_object;
         of_callers = known_at.of_callers;
         holder = holder_counts n r.log r.made r.owner id v.held v.made r.log (holder_sees n r.log r.made r.owner id v.held v.made v.seen known_at.holder) v.caller inside_made low_caller active;
+        obstacles = obstacles' is;
         at_turn = (omega arith, omega arith, server_here k refl, active, refl, omega arith);
       }
 
@@ -198,15 +206,15 @@ module _ {S : Type 0} (pr : Mark → ℕ) (stands : Object → ℕ → S → Lis
       hit slots is = let h = home_is is in
           (next, takes 0 h.0, ap (λ hs. get_elem? hs 0) r.homes ∙ ap some h.1, won_kept is, ((λ e. got is h), λ ne. absurd (ne is)))
 
-      miss_known : (w : View) → w ≡ record v { met = w.met; turn = Idle } → Knows o n r.serving r.ticket r.log r.made r.owner r.server id w
-      miss_known w same = subst (Knows o n r.serving r.ticket r.log r.made r.owner r.server id) (sym same)
-          record { of_object = known_at.of_object; of_callers = known_at.of_callers; holder = known_at.holder; at_turn = tt }
+      miss_known : (w : View) → w ≡ record v { met = w.met; turn = Idle } → All (WasOut r.serving r.ticket) w.met → Knows o n r.serving r.ticket r.log r.made r.owner r.server id w
+      miss_known w same read = subst (Knows o n r.serving r.ticket r.log r.made r.owner r.server id) (sym same)
+          record { of_object = known_at.of_object; of_callers = known_at.of_callers; holder = known_at.holder; obstacles = read; at_turn = tt }
 
-      miss_kept : (w : View) → w ≡ record v { met = w.met; turn = Idle } → Rule record { words = set s.words 0 r.ticket; homes = s.homes; views = set s.views id w }
-      miss_kept w same =
+      miss_kept : (w : View) → w ≡ record v { met = w.met; turn = Idle } → All (WasOut r.serving r.ticket) w.met → Rule record { words = set s.words 0 r.ticket; homes = s.homes; views = set s.views id w }
+      miss_kept w same read =
           let unchanged : set s.words 0 r.ticket ≡ s.words = ap (λ (z : ℕ). set s.words 0 z) (sym (word_at pr stands o n s r 0)) ∙ set-get_or s.words 0 0 in
           subst (λ (ws : List ℕ). Rule record { words = ws; homes = s.homes; views = set s.views id w }) (sym unchanged)
-          (quiet pr stands o n s r id v w at (looked_free v.turn k turn) (miss_known w same))
+          (quiet pr stands o n s r id v w at (looked_free v.turn k turn) (miss_known w same read))
 
       miss : (slots : ℕ) → r.ticket ≢ k → Tries slots r.ticket r.ticket
       unfolding Tries
@@ -214,7 +222,7 @@ module _ {S : Type 0} (pr : Mark → ℕ) (stands : Object → ℕ → S → Lis
         met v k r.ticket,
         keeps,
         tt,
-        miss_kept (met v k r.ticket) refl,
+        miss_kept (met v k r.ticket) refl (All-push (WasOut r.serving r.ticket) v.met _ known_at.obstacles (omega arith, lo, omega arith)),
         (
           (λ e. absurd (ne e)),
           (λ _. (
@@ -232,7 +240,7 @@ module _ {S : Type 0} (pr : Mark → ℕ) (stands : Object → ℕ → S → Lis
 
       grab_miss : (slots : ℕ) → r.ticket ≢ k → Grabs slots r.ticket r.ticket
       unfolding Grabs
-      grab_miss slots ne = (in_turn v Idle, keeps, tt, miss_kept (in_turn v Idle) refl, ((λ e. absurd (ne e)), (λ _. refl)))
+      grab_miss slots ne = (in_turn v Idle, keeps, tt, miss_kept (in_turn v Idle) refl known_at.obstacles, ((λ e. absurd (ne e)), (λ _. refl)))
 
       tried_at : (slots : ℕ) → Tries slots (get_or s.words 0 0) (either (eqb (get_or s.words 0 0) k) (k + 1) (get_or s.words 0 0))
       tried_at slots = subst (λ (z : ℕ). Tries slots z (either (eqb z k) (k + 1) z)) (sym (word_at pr stands o n s r 0)) (exchanged r.ticket k (k + 1) (Tries slots r.ticket) (hit slots) (miss slots))

@@ -1,10 +1,13 @@
--- What the rule says of a seat's turn, and how another seat's step leaves it.
+-- What the rule says of a seat's turn and of the obstacles that it met, and how another seat's step leaves it.
 use Rattle.std.proofs.Common.{◌≡◌, ◌≢◌, ℕ, ◌+◌, ◌<◌, ◌≤◌, List, length, sym, ap, ◌∙◌, subst, arith}
+use Rattle.std.specs.Prelude.{All}
+use Rattle.std.proofs.lemmas.List.Elements.{All-weaker}
 use Rattle.ho_model.specs.declared.marks.EntryMark.{EntryMark}
+use Rattle.turn_lock.specs.declared.view.Obstacle.{Obstacle}
 use Rattle.turn_lock.specs.declared.view.Turn.{Turn}
 use Rattle.turn_lock.specs.declared.view.Turn.TheVariants.{Idle, Looked, Drawn, Holds, Entered, Joined}
 use Rattle.turn_lock.specs.Views.{HasTicket, HasTurn}
-use Rattle.turn_lock.specs.Rule.{TurnFact}
+use Rattle.turn_lock.specs.Rule.{TurnFact, WasOut}
 
 turn_number : Turn → ℕ
 turn_number Idle = 0
@@ -48,6 +51,13 @@ one_ticket (Drawn r) t k h g = absurd g
 one_ticket (Holds r) t k h g = sym g ∙ h
 one_ticket (Entered r) t k h g = sym g ∙ h
 one_ticket (Joined p q h' h'') t k h g = absurd h
+
+-- obstacles stay true as the words grow
+pub read_later : (serving ticket serving' ticket' : ℕ) (met : List Obstacle) → serving ≤ serving' → ticket ≤ ticket' → All (WasOut serving ticket) met → All (WasOut serving' ticket') met
+read_later serving ticket serving' ticket' met le le' all = All-weaker (WasOut serving ticket) (WasOut serving' ticket') one met all
+  where
+    one : (o : Obstacle) → WasOut serving ticket o → WasOut serving' ticket' o
+    one o w = let a : o.serving ≤ serving = w.1 in let b : o.ticket ≤ ticket = w.2 in (w.0, omega arith, omega arith)
 
 module _ (serving ticket : ℕ) (log : List EntryMark) (server : ℕ → ℕ) (seat : ℕ) (seen : List EntryMark) (active whole : Type 0) where
   -- a ticket is not served yet, was drawn, and is this seat's

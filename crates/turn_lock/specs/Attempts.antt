@@ -20,7 +20,3 @@ module _ {C R : Type 0} where
   abbrev pub IfNoMemory : Attempt C R → (C → Type 0) → Type 0
   IfNoMemory (NoMemory back) P = P back
   IfNoMemory _ P = ⊤
-
-  abbrev pub IsSpent : Attempt C R → Type 0
-  IsSpent (Spent back) = ⊤
-  IsSpent _ = ⊥

@@ -1,6 +1,6 @@
 -- The rule of the turn lock's table. One word is the next ticket, one the number that is served, and
 -- one the length of the history. The one slot has the machine while no seat has the turn.
-use Rattle.std.specs.Prelude.{◌≡◌, ℕ, ◌+◌, ◌<◌, ◌≤◌, ◌⊎◌, ◌^◌, List, [], ◌∷◌, length, slice_index, sum}
+use Rattle.std.specs.Prelude.{◌≡◌, ℕ, ◌+◌, ◌<◌, ◌≤◌, ◌⊎◌, ◌^◌, List, [], ◌∷◌, length, slice_index, sum, All}
 use mathlib.Core.Option.{Option, some}
 use lib.ListN.{get_elem?}
 use Rattle.atomic_table.specs.Table.{State}
@@ -11,6 +11,7 @@ use Rattle.passes.specs.Numbers.{HasNumber}
 use Rattle.passes.specs.Seen.{IsLawful}
 use Rattle.passes.specs.Holders.{Holder, Meet}
 use Rattle.turn_lock.specs.declared.view.View.{View}
+use Rattle.turn_lock.specs.declared.view.Obstacle.{Obstacle}
 use Rattle.turn_lock.specs.declared.view.Turn.{Turn}
 use Rattle.turn_lock.specs.declared.view.Turn.TheVariants.{Idle, Looked, Drawn, Holds, Entered, Joined}
 use Rattle.turn_lock.specs.Views.{HasTicket, HasTurn, IsWhole}
@@ -34,10 +35,15 @@ module _ (serving ticket : ℕ) (log : List EntryMark) (server : ℕ → ℕ) (s
   TurnFact (Entered k) = (k ≡ serving) × (k < ticket) × (server k ≡ seat) × active × (seen ≡ log) × (length log ≤ k + 1)
   TurnFact (Joined first second held held') = Meet held held' first second seen
 
+-- an obstacle whose numbers the words once had: the serving number below the ticket number
+abbrev pub WasOut : ℕ → ℕ → Obstacle → Type 0
+WasOut serving ticket o = (o.serving < o.ticket) × (o.serving ≤ serving) × (o.ticket ≤ ticket)
+
 pub record Knows (o : Object) (n serving ticket : ℕ) (log : List EntryMark) (made : List ℕ) (owner server : ℕ → ℕ) (seat : ℕ) (v : View) : Type 0 where
   pub of_object : v.object ≡ o
   pub of_callers : v.callers ≡ n
   pub holder : Holder n log made owner seat v.held v.made v.seen
+  pub obstacles : All (WasOut serving ticket) v.met
   pub at_turn : TurnFact serving ticket log server seat v.seen (HasNumber v.held v.caller) (IsWhole v) v.turn
 
 -- stands says which machines stand for a history of the object o with n callers

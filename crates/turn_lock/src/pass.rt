@@ -1,36 +1,35 @@
 // The pass of a caller.
 ghost use Rattle.std.specs.Prelude.{◌≡◌, ◌<◌, ◌+◌, IsTrue, ◌↔◌};
-ghost use Rattle.passes.specs.Numbers.{held_count};
-ghost use Rattle.turn_lock.specs.Passes.{IsWhole};
+ghost use Rattle.passes.specs.Numbers.{held_count, HasNumber};
+ghost use Rattle.passes.specs.Views.{IsWhole};
 
 use crate::view::View;
 use atomic_table::Badge;
-use passes::{count_held, has_spare, holds_all};
+use passes::Numbers;
 use std::marker::Model;
 
 /// The right to call a shared object under a number, and what its owner has seen of the object.
 ///
 /// Contracts see of it the object, its own number `caller`, the numbers that it holds, the count of
 /// calls made under each, the beginning of the object's history that it has seen, and the obstacles
-/// that its tries have met (`PassView` of `specs/Passes.antt`). A pass may move to another thread.
+/// that its tries have met (`LockPass` of `specs/Passes.antt`). A pass may move to another thread.
 /// One that is dropped keeps its numbers for good, so that no pass of its object is whole again.
 #[derive(Drop)]
 pub struct Pass {
+    /// Its seat at the table. A pass does not name the machine's type, so it keeps the seat as a
+    /// badge.
     pub(crate) badge: Badge<View>,
-    pub(crate) caller: u32,
-    pub(crate) callers: u32,
-    pub(crate) held: [bool; 64],
-    pub(crate) made: [u64; 64],
+    pub(crate) numbers: Numbers,
 }
 
 impl Model for Pass {
-    ghost use Rattle.turn_lock.specs.Passes.{PassView, pass_view, the_view, IsPass};
+    ghost use Rattle.turn_lock.specs.Passes.{LockPass, pass_view, the_view, IsPass};
 
-    ghost Value = { PassView };
+    ghost Value = { LockPass };
 
     ghost view = { λ p. pass_view p.badge.table_id (the_view p.badge.views) };
 
-    ghost invariant = { λ p. IsPass p.badge.views p.caller p.callers p.held p.made };
+    ghost invariant = { λ p. IsPass p.badge.views p.numbers };
 }
 
 impl Pass {
@@ -38,28 +37,29 @@ impl Pass {
     pub fn caller(&self) -> u32
         ensures caller { result ≡ self.now.caller }
         ensures inside { result < 64 }
+        ensures own { HasNumber self.now.held self.now.caller }
     {
-        self.caller
+        self.numbers.caller()
     }
 
     /// How many numbers it holds beside its own, each of which it can give away.
     pub fn spare(&self) -> u32
         ensures { result + 1 ≡ held_count self.now.held }
     {
-        count_held(&self.held) - 1
+        self.numbers.spare()
     }
 
     /// Whether it holds a number beside its own, as a split asks.
     pub fn has_spare(&self) -> bool
         ensures { IsTrue result ↔ (1 < held_count self.now.held) }
     {
-        has_spare(&self.held)
+        self.numbers.has_spare()
     }
 
     /// Whether it holds the numbers of all callers, so that there is no other.
     pub fn is_whole(&self) -> bool
         ensures { IsTrue result ↔ IsWhole self.now }
     {
-        holds_all(&self.held, self.callers as usize)
+        self.numbers.is_whole()
     }
 }

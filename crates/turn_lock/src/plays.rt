@@ -6,7 +6,7 @@ use std::marker::{Brand, PhantomData};
 use std::snapshot::Snapshot;
 
 /// The rule. The key of a table is its machine at the start, and the number of callers.
-pub struct Turns<M> {
+pub(crate) struct Turns<M> {
     marker: PhantomData<M>,
 }
 
@@ -23,7 +23,7 @@ impl<M: Stepper> TableRule<M, View, (Snapshot<M>, u64)> for Turns<M> {
 }
 
 /// The load with which a try begins.
-pub struct Look;
+pub(crate) struct Look;
 
 impl<M> Play<M, View> for Look {
     ghost use Rattle.turn_lock.specs.Plays.{looked};
@@ -32,7 +32,7 @@ impl<M> Play<M, View> for Look {
 }
 
 /// A try for the ticket that is served.
-pub struct Try;
+pub(crate) struct Try;
 
 impl<M: Stepper> Play<M, View> for Try {
     ghost use Rattle.ho_model.specs.Histories.{StandsFor};
@@ -43,7 +43,7 @@ impl<M: Stepper> Play<M, View> for Try {
 }
 
 /// The same try in a call that goes on trying.
-pub struct Grab;
+pub(crate) struct Grab;
 
 impl<M: Stepper> Play<M, View> for Grab {
     ghost use Rattle.ho_model.specs.Histories.{StandsFor};
@@ -54,7 +54,7 @@ impl<M: Stepper> Play<M, View> for Grab {
 }
 
 /// The next ticket is drawn.
-pub struct Draw;
+pub(crate) struct Draw;
 
 impl<M> Play<M, View> for Draw {
     ghost use Rattle.turn_lock.specs.Plays.{drew};
@@ -63,7 +63,7 @@ impl<M> Play<M, View> for Draw {
 }
 
 /// A seat with a ticket looks whether its turn has come.
-pub struct Reach;
+pub(crate) struct Reach;
 
 impl<M: Stepper> Play<M, View> for Reach {
     ghost use Rattle.ho_model.specs.Histories.{StandsFor};
@@ -74,7 +74,7 @@ impl<M: Stepper> Play<M, View> for Reach {
 }
 
 /// Names the entry that a step makes. Each call picks it.
-pub trait Naming {
+pub(crate) trait Naming {
     ghost use Rattle.ho_model.specs.declared.marks.EntryMark.{EntryMark};
 
     ghost entry: { EntryMark };
@@ -87,7 +87,7 @@ impl Naming for Brand {
 }
 
 /// The entry.
-pub struct Enter<E> {
+pub(crate) struct Enter<E> {
     marker: PhantomData<E>,
 }
 
@@ -98,7 +98,7 @@ impl<M, E: Naming> Play<M, View> for Enter<E> {
 }
 
 /// The turn is given back, with the machine.
-pub struct Leave;
+pub(crate) struct Leave;
 
 impl<M> Play<M, View> for Leave {
     ghost use Rattle.turn_lock.specs.Plays.{left};
@@ -107,7 +107,7 @@ impl<M> Play<M, View> for Leave {
 }
 
 /// Names the number that a split gives away.
-pub trait Numbered {
+pub(crate) trait Numbered {
     ghost use Rattle.std.specs.Prelude.{ℕ};
 
     ghost number: { ℕ };
@@ -117,7 +117,7 @@ impl Numbered for Brand {
     ghost number = { 0 };
 }
 
-pub struct Give<N> {
+pub(crate) struct Give<N> {
     marker: PhantomData<N>,
 }
 
@@ -130,7 +130,7 @@ impl<N: Numbered> Split<View> for Give<N> {
 }
 
 /// Names the view of the seat that a join takes in.
-pub trait Leaving {
+pub(crate) trait Leaving {
     ghost use Rattle.turn_lock.specs.declared.view.View.{View};
 
     ghost last: { View };
@@ -142,7 +142,7 @@ impl Leaving for Brand {
     ghost last = { no_view };
 }
 
-pub struct TakeIn<L> {
+pub(crate) struct TakeIn<L> {
     marker: PhantomData<L>,
 }
 
@@ -155,7 +155,7 @@ impl<L: Leaving> Join<View> for TakeIn<L> {
 }
 
 /// The load after a join.
-pub struct Tell;
+pub(crate) struct Tell;
 
 impl<M: Stepper> Play<M, View> for Tell {
     ghost use Rattle.turn_lock.specs.Plays.{told};

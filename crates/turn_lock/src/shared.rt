@@ -1,14 +1,15 @@
 // A machine that callers share.
 use crate::attempt::Attempt;
+use crate::layout::{MACHINE, WORDS};
 use crate::pass::Pass;
 use crate::plays::Turns;
-use crate::steps::{WORDS, give, take_in};
-use crate::turns::{take_turn, try_turn};
+use crate::serving::{take_turn, try_turn};
+use crate::steps::{doze, give, glance, take_in, tell};
 use crate::view::View;
 use atomic_table::{Badge, Refused, Table};
 use ho_base::{Receipt, Unpaid};
 use ho_model::Stepper;
-use passes::{first_numbers, least_spare, merge, only_number};
+use passes::Numbers;
 use std::alloc::Global;
 use std::marker::{Brand, Model};
 use std::mem;
@@ -25,7 +26,7 @@ const MOST_CALLS: u64 = 1 << 48;
 /// `Shared` is its table, and a pass is of it where the pass's `table` is equal.
 #[derive(Drop)]
 pub struct Shared<M: Stepper> {
-    table: Table<M, View, (Snapshot<M>, u64), Turns<M>, Global>,
+    pub(crate) table: Table<M, View, (Snapshot<M>, u64), Turns<M>, Global>,
 }
 
 impl<M: Stepper> Model for Shared<M> {
@@ -42,14 +43,12 @@ impl<M: Stepper> Model for Shared<M> {
 }
 
 impl<M: Stepper> Shared<M> {
-    ghost use Rattle.std.specs.Prelude.{◌≡◌, ◌<◌, ◌≤◌, ◌++◌, ◌↔◌, ℕ, [], true, IfOk, IfErr, OnErr};
-    ghost use Rattle.ho_model.specs.Entries.{entry};
+    ghost use Rattle.std.specs.Prelude.{◌≡◌, ◌<◌, ◌≤◌, [], IfOk, IfErr};
     ghost use Rattle.ho_model.specs.Histories.{StandsFor};
-    ghost use Rattle.passes.specs.Numbers.{IsSpare, AreApart, held_count, held_both, made_both, give, only};
-    ghost use Rattle.passes.specs.Seen.{SeesOthers, IsLawful, longer};
-    ghost use Rattle.turn_lock.specs.Attempts.{IfAnswer, IfBusy, IfSpent, IfNoMemory, IsSpent};
-    ghost use Rattle.turn_lock.specs.Passes.{IsWhole, first_pass};
-    ghost use Rattle.turn_lock.specs.Calls.{IsSamePass, Answers, AddsNoEntry, CountsOne, MeetsObstacle, HasNoCallLeft};
+    ghost use Rattle.passes.specs.Numbers.{held_count};
+    ghost use Rattle.passes.specs.Views.{IsWhole, first_pass};
+    ghost use Rattle.passes.specs.Calls.{IsSamePass, Splits, Joins};
+    ghost use Rattle.turn_lock.specs.Calls.{Called, Attempted, MetTicketsOut};
 
     /// Shares a machine that stands for the empty history among callers 0 up to `callers`.
     ///
@@ -69,13 +68,9 @@ impl<M: Stepper> Shared<M> {
         slots.push_reserved(machine);
         match Table::new(alloc, &[0; WORDS], slots, &about) {
             Ok((table, seat)) => {
-                let held = first_numbers(callers as usize);
                 let pass = Pass {
                     badge: seat.into_badge(),
-                    caller: 0,
-                    callers,
-                    held,
-                    made: [0; 64],
+                    numbers: Numbers::first(callers),
                 };
                 Ok((Shared { table }, pass))
             }
@@ -89,8 +84,8 @@ impl<M: Stepper> Shared<M> {
 
     /// Waits for the turn, and makes the call.
     ///
-    /// For want of memory there is no entry, and the call comes back. A caller that has made as many
-    /// calls as it may does not return.
+    /// For want of memory there is no entry, and the call comes back. A caller that has made as
+    /// many calls as it may does not return.
     pub fn call<R: Wait>(
         &self,
         rt: &R,
@@ -99,26 +94,22 @@ impl<M: Stepper> Shared<M> {
     ) -> Result<(M::Replied, Receipt), Unpaid<M::Called>>
         requires { pass.old.table ≡ self.now }
         ensures pass { IsSamePass pass.old pass.new }
-        ensures counted { CountsOne pass.old pass.new }
-
-        ensures entry { IfOk result (λ r. Answers M.priority
-            (λ tally. M.fits tally call r.0) pass.old
-            (entry pass.old.caller (M.call_mark call) (M.reply_mark r.0)) r.1 pass.new) }
-
-        ensures back { IfErr result (λ unpaid. unpaid.back ≡ call) }
-        ensures no_entry { OnErr result (AddsNoEntry M.priority pass.old pass.new
-            × (pass.new.met ≡ pass.old.met)) }
-        ensures wanted { OnErr result (M.may_want pass.old.object (M.call_mark call) ≡ true) }
+        ensures called { Called M.priority M.call_mark M.reply_mark M.fits M.may_want pass.old
+            pass.new call result }
     {
-        let caller = pass.caller;
-        if pass.made[caller as usize] >= MOST_CALLS {
-            for _ in rt.forever() {}
+        let board = &self.table.shared;
+        let caller = pass.numbers.caller();
+        if pass.numbers.is_spent(MOST_CALLS) {
+            for _ in rt.forever() {
+                doze(rt, board, glance(board));
+            }
             unreachable!()
         }
         let mut seat = mem::replace(&mut pass.badge, Badge::blank()).into_seat();
-        let served = take_turn(rt, &self.table.shared, &mut seat, caller, call);
+        let served = take_turn(rt, board, &mut seat, caller, call);
         pass.badge = seat.into_badge();
-        pass.made[caller as usize] += 1;
+        pass.numbers.count_call();
+        // for the proof: each arm has its own clause
         match served {
             Ok(answer) => Ok(answer),
             Err(unpaid) => Err(unpaid),
@@ -127,42 +118,36 @@ impl<M: Stepper> Shared<M> {
 
     /// Tries once to get the turn, and makes the call where it came.
     ///
-    /// It loads the number that is served and tries one exchange of the next ticket, and waits for
-    /// nobody. Only an answer makes an entry; all else hands the call back.
+    /// It loads the number that is served, tries one exchange of the next ticket and waits for nobody.
+    /// How many exchanges it tries is no part of its contract. Only an answer makes an entry; all else
+    /// hands the call back.
     pub fn try_call(&self, pass: &mut Pass, call: M::Called) -> Attempt<M::Called, M::Replied>
         requires { pass.old.table ≡ self.now }
         ensures pass { IsSamePass pass.old pass.new }
-
-        ensures answer { IfAnswer result (λ reply receipt. CountsOne pass.old pass.new
-            × Answers M.priority (λ tally. M.fits tally call reply) pass.old
-            (entry pass.old.caller (M.call_mark call) (M.reply_mark reply)) receipt pass.new) }
-
-        ensures busy { IfBusy result (λ back. (back ≡ call)
-            × AddsNoEntry M.priority pass.old pass.new × MeetsObstacle pass.old pass.new) }
-
-        ensures unpaid { IfNoMemory result (λ back. (back ≡ call) × CountsOne pass.old pass.new
-            × AddsNoEntry M.priority pass.old pass.new × (pass.new.met ≡ pass.old.met)
-            × (M.may_want pass.old.object (M.call_mark call) ≡ true)) }
-
-        ensures spent { IfSpent result (λ back. (back ≡ call) × (pass.new ≡ pass.old)) }
-        ensures spent_at_limit { IsSpent result ↔ HasNoCallLeft pass.old }
+        ensures attempted { Attempted M.priority M.call_mark M.reply_mark M.fits M.may_want pass.old
+            pass.new call result }
     {
-        let caller = pass.caller;
-        if pass.made[caller as usize] >= MOST_CALLS {
+        let board = &self.table.shared;
+        let caller = pass.numbers.caller();
+        let is_spent = pass.numbers.is_spent(MOST_CALLS);
+        let mut seat = mem::replace(&mut pass.badge, Badge::blank()).into_seat();
+        if is_spent {
+            // for the proof: a load tells that what the pass has seen is legal
+            tell(board, &mut seat);
+            pass.badge = seat.into_badge();
             return Attempt::Spent(call);
         }
-        let mut seat = mem::replace(&mut pass.badge, Badge::blank()).into_seat();
-        let answer = try_turn(&self.table.shared, &mut seat, caller, call);
+        let answer = try_turn(board, &mut seat, caller, call);
         pass.badge = seat.into_badge();
         match answer {
             Attempt::Answer(reply, receipt) => {
-                pass.made[caller as usize] += 1;
+                pass.numbers.count_call();
                 Attempt::Answer(reply, receipt)
             }
             Attempt::Busy(back) => Attempt::Busy(back),
             Attempt::Spent(back) => Attempt::Spent(back),
             Attempt::NoMemory(back) => {
-                pass.made[caller as usize] += 1;
+                pass.numbers.count_call();
                 Attempt::NoMemory(back)
             }
         }
@@ -174,24 +159,16 @@ impl<M: Stepper> Shared<M> {
     pub fn split(&self, pass: &mut Pass) -> Pass
         requires table { pass.old.table ≡ self.now }
         requires spare { 1 < held_count pass.old.held }
-        ensures kept { pass.new ≡ record pass.old { held = give pass.old.held result.caller } }
-        ensures given { result ≡
-            record pass.old { caller = result.caller; held = only result.caller; met = [] } }
-        ensures spare { IsSpare pass.old.held pass.old.caller result.caller }
-        ensures least { (c : ℕ) → c < result.caller → ¬ IsSpare pass.old.held pass.old.caller c }
+        ensures { Splits pass.old pass.new result }
     {
-        let number = least_spare(&pass.held, pass.caller);
+        let numbers = pass.numbers.split_off();
+        let number = numbers.caller() as usize;
         let mut seat = mem::replace(&mut pass.badge, Badge::blank()).into_seat();
         let other = give::<M, Brand>(&self.table.shared, &mut seat, number);
         pass.badge = seat.into_badge();
-        pass.held[number] = false;
-        let held = only_number(number);
         Pass {
             badge: other.into_badge(),
-            caller: number as u32,
-            callers: pass.callers,
-            held,
-            made: pass.made,
+            numbers,
         }
     }
 
@@ -201,47 +178,28 @@ impl<M: Stepper> Shared<M> {
     /// with entries of callers other than that pass's own. Takes no memory.
     pub fn join(&self, pass: &mut Pass, other: Pass)
         requires table { (pass.old.table ≡ self.now) × (other.table ≡ self.now) }
-        ensures joined { pass.new ≡ record pass.old {
-          held = held_both pass.old.held other.held;
-          made = made_both other.held pass.old.made other.made;
-          seen = longer pass.old.seen other.seen;
-          met = pass.old.met ++ other.met;
-        } }
-        ensures apart { AreApart pass.old.held other.held }
-        ensures first { SeesOthers pass.old.held pass.old.seen pass.new.seen }
-        ensures second { SeesOthers other.held other.seen pass.new.seen }
-        ensures lawful { IsLawful M.priority pass.new.object pass.new.callers pass.new.seen }
+        ensures { Joins M.priority pass.old other pass.new }
     {
-        let Pass {
-            badge,
-            caller: _,
-            callers: _,
-            held,
-            made,
-        } = other;
+        let Pass { badge, numbers } = other;
         let mut seat = mem::replace(&mut pass.badge, Badge::blank()).into_seat();
         take_in::<M, Brand>(&self.table.shared, &mut seat, badge.into_seat());
         pass.badge = seat.into_badge();
-        merge(&mut pass.held, &mut pass.made, &held, &made);
+        pass.numbers.take_in(numbers);
     }
 
-    /// The machine back, which stands for all that the whole pass has seen: the whole history.
+    /// The machine back, which stands for all that the whole pass has seen: the whole history. No
+    /// obstacle that the pass has met told of more tickets than calls were counted.
     pub fn close(self, pass: Pass) -> M
         requires table { pass.table ≡ self }
         requires whole { IsWhole pass }
-        ensures { StandsFor M.priority M.object M.callers M.state M.steps M.tally pass.object
+        ensures stands { StandsFor M.priority M.object M.callers M.state M.steps M.tally pass.object
             pass.callers result pass.seen }
+        ensures obstacles { MetTicketsOut pass }
     {
         let Shared { table } = self;
-        let Pass {
-            badge,
-            caller: _,
-            callers: _,
-            held: _,
-            made: _,
-        } = pass;
+        let Pass { badge, numbers: _ } = pass;
         let mut closed = table.close_with(badge.into_seat());
-        let machine = closed.take(0);
+        let machine = closed.take(MACHINE);
         closed.free();
         machine
     }

@@ -1,15 +1,17 @@
 // The kinds of step, each one call on the table by a seat.
-ghost use Rattle.std.specs.Prelude.{◌≡◌, ◌≢◌, ℕ, ◌<◌, ◌^◌, [], ◌∷◌, ◌++◌, length, slice_index};
+ghost use Rattle.std.specs.Prelude.{◌≡◌, ◌≢◌, ℕ, ◌<◌, ◌^◌, [], ◌∷◌, ◌++◌, length, slice_index, List, Bool};
+ghost use Rattle.ho_model.specs.declared.marks.EntryMark.{EntryMark};
 ghost use Rattle.ho_model.specs.Entries.{entry};
 ghost use Rattle.ho_model.specs.Histories.{IsLegal, StandsFor};
 ghost use Rattle.passes.specs.Numbers.{HasNumber, IsSpare};
 ghost use Rattle.passes.specs.Holders.{Meet};
 ghost use Rattle.passes.specs.Seen.{IsLawful};
-ghost use Rattle.turn_lock.specs.declared.view.Turn.TheVariants.{Idle, Looked, Drawn, Holds};
-ghost use Rattle.turn_lock.specs.Views.{HasTurn, IsWhole, in_turn, counted, entered, met, drawn, without, alone, joined};
+ghost use Rattle.turn_lock.specs.declared.view.Turn.TheVariants.{Idle, Looked, Drawn, Holds, Joined};
+ghost use Rattle.turn_lock.specs.Views.{HasTicket, HasTurn, IsWhole, in_turn, counted, entered, met, drawn, without, alone, joined};
 ghost use Rattle.turn_lock.specs.Plays.{Got};
 ghost use Rattle.turn_lock.specs.Seats.{IsFor, IsSame, HasWords};
 
+use crate::layout::{COUNT, SERVING, TICKET};
 use crate::plays::{
     Draw, Enter, Give, Grab, Leave, Leaving, Look, Naming, Numbered, Reach, TakeIn, Tell, Try,
     Turns,
@@ -20,41 +22,29 @@ use std::snapshot::Snapshot;
 use std::sync::Wait;
 use std::time::Duration;
 
-pub type Board<M> = atomic_table::Shared<M, View, (Snapshot<M>, u64), Turns<M>>;
+pub(crate) type Board<M> = atomic_table::Shared<M, View, (Snapshot<M>, u64), Turns<M>>;
 
-pub type Seat<M> = atomic_table::Seat<M, View>;
-
-/// How many words the table has. `specs/Rule.antt` says what stands in each.
-pub const WORDS: usize = 18;
-
-/// The next ticket.
-const TICKET: usize = 0;
-
-/// The number that is served.
-const SERVING: usize = 16;
-
-/// The length of the history.
-const COUNT: usize = 17;
+pub(crate) type Seat<M> = atomic_table::Seat<M, View>;
 
 /// How many microseconds a caller sleeps that waits for a turn which does not move on.
 const MOMENT: u64 = 50;
 
 /// Whether the turn seems free. It says nothing for sure, and spares others a write to their words.
-pub fn seems_free<M: Stepper>(board: &Board<M>) -> bool
+pub(crate) fn seems_free<M: Stepper>(board: &Board<M>) -> bool
     requires { HasWords board.now.table_id }
 {
     board.peek(TICKET) == board.peek(SERVING)
 }
 
 /// The number that seems to be served. It says nothing for sure.
-pub fn glance<M: Stepper>(board: &Board<M>) -> u64
+pub(crate) fn glance<M: Stepper>(board: &Board<M>) -> u64
     requires { HasWords board.now.table_id }
 {
     board.peek(SERVING)
 }
 
 /// Sleeps for a moment, if this number is still served. Nobody wakes it.
-pub fn doze<M: Stepper, R: Wait>(rt: &R, board: &Board<M>, serving: u64)
+pub(crate) fn doze<M: Stepper, R: Wait>(rt: &R, board: &Board<M>, serving: u64)
     requires { HasWords board.now.table_id }
 {
     let moment = Duration::from_micros(MOMENT);
@@ -62,7 +52,7 @@ pub fn doze<M: Stepper, R: Wait>(rt: &R, board: &Board<M>, serving: u64)
 }
 
 /// Loads the number that is served.
-pub fn look<M: Stepper>(board: &Board<M>, seat: &mut Seat<M>) -> u64
+pub(crate) fn look<M: Stepper>(board: &Board<M>, seat: &mut Seat<M>) -> u64
     requires table { IsFor board.now.table_id seat.old }
     requires idle { seat.old.me.0.turn ≡ Idle }
     ensures same { IsSame seat.old seat.new }
@@ -74,7 +64,7 @@ pub fn look<M: Stepper>(board: &Board<M>, seat: &mut Seat<M>) -> u64
 
 /// Takes the ticket that is served, if it is still the next one. Returns the next ticket that it
 /// found. A miss is an obstacle met.
-pub fn try_ticket<M: Stepper>(board: &Board<M>, seat: &mut Seat<M>, serving: u64) -> u64
+pub(crate) fn try_ticket<M: Stepper>(board: &Board<M>, seat: &mut Seat<M>, serving: u64) -> u64
     requires table { IsFor board.now.table_id seat.old }
     requires looked { (seat.old.me.0.turn ≡ Looked serving) × (serving < 2 ^ 60) }
     requires active { HasNumber seat.old.me.0.held seat.old.me.0.caller }
@@ -92,7 +82,7 @@ pub fn try_ticket<M: Stepper>(board: &Board<M>, seat: &mut Seat<M>, serving: u64
 }
 
 /// The same, but a miss leaves the seat as it was before it looked.
-pub fn grab_ticket<M: Stepper>(board: &Board<M>, seat: &mut Seat<M>, serving: u64) -> u64
+pub(crate) fn grab_ticket<M: Stepper>(board: &Board<M>, seat: &mut Seat<M>, serving: u64) -> u64
     requires table { IsFor board.now.table_id seat.old }
     requires looked { (seat.old.me.0.turn ≡ Looked serving) × (serving < 2 ^ 60) }
     requires active { HasNumber seat.old.me.0.held seat.old.me.0.caller }
@@ -107,7 +97,7 @@ pub fn grab_ticket<M: Stepper>(board: &Board<M>, seat: &mut Seat<M>, serving: u6
 }
 
 /// Draws the next ticket.
-pub fn draw<M: Stepper>(board: &Board<M>, seat: &mut Seat<M>) -> u64
+pub(crate) fn draw<M: Stepper>(board: &Board<M>, seat: &mut Seat<M>) -> u64
     requires table { IsFor board.now.table_id seat.old }
     requires idle { seat.old.me.0.turn ≡ Idle }
     requires active { HasNumber seat.old.me.0.held seat.old.me.0.caller }
@@ -119,7 +109,7 @@ pub fn draw<M: Stepper>(board: &Board<M>, seat: &mut Seat<M>) -> u64
 }
 
 /// Loads the number that is served, for a seat with the ticket `turn`.
-pub fn reach<M: Stepper>(board: &Board<M>, seat: &mut Seat<M>, turn: u64) -> u64
+pub(crate) fn reach<M: Stepper>(board: &Board<M>, seat: &mut Seat<M>, turn: u64) -> u64
     requires table { IsFor board.now.table_id seat.old }
     requires turn { seat.old.me.0.turn ≡ Drawn turn }
     ensures same { IsSame seat.old seat.new }
@@ -128,12 +118,14 @@ pub fn reach<M: Stepper>(board: &Board<M>, seat: &mut Seat<M>, turn: u64) -> u64
         seat.old.me.0 seat.old.me.1 turn seat.new.me }
     ensures not { result ≢ turn → seat.new.me ≡ seat.old.me }
 {
+    // for the proof: its clauses name the ticket
     let _ = turn;
     board.load::<Reach>(seat, SERVING)
 }
 
-/// Makes the entry, and returns how many entries stand before it.
-pub fn enter<M: Stepper, E: Naming>(
+/// Makes the entry, and returns how many entries stand before it. This is the linearization point
+/// of a call: with this addition its entry stands in the history.
+pub(crate) fn enter<M: Stepper, E: Naming>(
     board: &Board<M>,
     seat: &mut Seat<M>,
     turn: u64,
@@ -153,13 +145,14 @@ pub fn enter<M: Stepper, E: Naming>(
     ) }
     ensures number { result ≡ length seat.old.me.0.seen }
 {
+    // for the proof: its clauses name the entry
     let _ = call;
     let _ = reply;
     board.fetch_add::<Enter<E>>(seat, COUNT, 1)
 }
 
 /// Gives the turn back, with the machine.
-pub fn leave<M: Stepper>(board: &Board<M>, seat: &mut Seat<M>, turn: u64)
+pub(crate) fn leave<M: Stepper>(board: &Board<M>, seat: &mut Seat<M>, turn: u64)
     requires table { IsFor board.now.table_id seat.old }
     requires turn { HasTurn seat.old.me.0.turn turn }
     requires machine { (x : M) × (seat.old.me.1 ≡ (0, x) ∷ [])
@@ -172,7 +165,11 @@ pub fn leave<M: Stepper>(board: &Board<M>, seat: &mut Seat<M>, turn: u64)
 }
 
 /// Gives one number away, to a new seat.
-pub fn give<M: Stepper, N: Numbered>(board: &Board<M>, seat: &mut Seat<M>, number: usize) -> Seat<M>
+pub(crate) fn give<M: Stepper, N: Numbered>(
+    board: &Board<M>,
+    seat: &mut Seat<M>,
+    number: usize,
+) -> Seat<M>
     requires table { IsFor board.now.table_id seat.old }
     requires number { N.number ≡ number }
     requires idle { seat.old.me.0.turn ≡ Idle }
@@ -182,12 +179,13 @@ pub fn give<M: Stepper, N: Numbered>(board: &Board<M>, seat: &mut Seat<M>, numbe
     ensures right { (result.table_id ≡ seat.old.table_id)
         × (result.me ≡ (alone seat.old.me.0 number, [])) }
 {
+    // for the proof: its clauses name the number
     let _ = number;
     board.split_seat::<Give<N>>(seat)
 }
 
 /// Takes in another seat.
-pub fn take_in<M: Stepper, L: Leaving>(board: &Board<M>, seat: &mut Seat<M>, other: Seat<M>)
+pub(crate) fn take_in<M: Stepper, L: Leaving>(board: &Board<M>, seat: &mut Seat<M>, other: Seat<M>)
     requires table { IsFor board.now.table_id seat.old × IsFor board.now.table_id other }
     requires last { L.last ≡ other.me.0 }
     requires idle { (seat.old.me.0.turn ≡ Idle) × (other.me.0.turn ≡ Idle) × (other.me.1 ≡ []) }
@@ -199,5 +197,19 @@ pub fn take_in<M: Stepper, L: Leaving>(board: &Board<M>, seat: &mut Seat<M>, oth
         (joined seat.old.me.0 other.me.0).seen }
 {
     board.join_seat::<TakeIn<L>>(seat, other);
+    tell(board, seat);
+}
+
+/// Loads a word, by which the seat is told that what it has seen is legal, and what a join left.
+pub(crate) fn tell<M: Stepper>(board: &Board<M>, seat: &mut Seat<M>)
+    requires table { IsFor board.now.table_id seat.old }
+    requires free { (t : ℕ) → HasTicket seat.old.me.0.turn t → ⊥ }
+    ensures same { IsSame seat.old seat.new }
+    ensures idle { seat.new.me ≡ (in_turn seat.old.me.0 Idle, seat.old.me.1) }
+    ensures joined { (p q : List EntryMark) (h h' : List Bool) → seat.old.me.0.turn ≡ Joined p q h h'
+        → Meet h h' p q seat.old.me.0.seen }
+    ensures lawful { IsLawful M.priority seat.old.me.0.object seat.old.me.0.callers
+        seat.old.me.0.seen }
+{
     board.load::<Tell>(seat, SERVING);
 }

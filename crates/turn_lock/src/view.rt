@@ -3,7 +3,7 @@ use ho_model::{EntryMark, Object};
 use std::collections::LinkedList;
 
 /// How far a seat has come with a turn.
-pub enum Turn {
+pub(crate) enum Turn {
     Idle,
     /// It read this number as served.
     Looked(u64),
@@ -17,8 +17,8 @@ pub enum Turn {
     Joined(LinkedList<EntryMark>, LinkedList<EntryMark>, LinkedList<bool>, LinkedList<bool>),
 }
 
-/// Why a try answered that the lock is busy: it read this serving number and this ticket number,
-/// the second above the first, so the tickets from the first on were out.
+/// Why a try answered that the lock is busy: a serving number and a ticket number above it, so that the
+/// tickets from the first on were out. By the rule neither number was ever above its word.
 #[derive(Clone, Copy, Debug, PartialEq, Eq)]
 pub struct Obstacle {
     pub serving: u64,
@@ -26,8 +26,8 @@ pub struct Obstacle {
 }
 
 /// What a seat knows.
-pub struct View {
-    pub object: Object,
+pub(crate) struct View {
+    pub(crate) object: Object,
     /// The callers of the object are those below this number.
     pub callers: u64,
     pub caller: u64,

@@ -1,7 +1,7 @@
 // Worked rows, by one caller, and by two that take turns.
 ghost use Rattle.std.specs.Prelude.{◌≡◌};
 
-use crate::{Channel, MakeRefused, ReadReply, Reader, WriteReply, Writer};
+use crate::{Channel, ChannelTry, MakeRefused, ReadReply, Reader, WriteReply, Writer};
 use channel_core::{ChannelCall, ChannelReply, ChannelState};
 use ho_base::{Fault, Receipt};
 use ho_model::{Machine, Mode};
@@ -186,17 +186,39 @@ fn a_completed_channel_can_be_read_to_its_end(rt: HostRuntime) -> Result<(), Fai
 }
 
 #[test]
-fn a_channel_lends_its_machine(rt: HostRuntime) -> Result<(), Fail> {
+fn two_passes_call_one_channel(rt: HostRuntime) -> Result<(), Fail> {
     let (channel, mut pass) = Channel::unbounded(rt.alloc(), 2)?;
     assert!(rt; pass.has_spare());
     let mut other = channel.split(&mut pass);
     let written = channel.call(&rt, &mut pass, ChannelCall::Write(7u64));
     assert!(rt; matches!(written, Ok((ChannelReply::Done, receipt)) if is_at(receipt, 0)));
-    let read = channel.shared().try_call(&mut other, ChannelCall::Read);
+    let read = channel.try_call(&mut other, ChannelCall::Read);
     assert!(rt;
-        matches!(read, Attempt::Answer(ChannelReply::Item(7), receipt) if is_at(receipt, 1))
+        matches!(read, ChannelTry::Answer(ChannelReply::Item(7), receipt) if is_at(receipt, 1))
     );
     channel.join(&mut pass, other);
     assert!(rt; pass.is_whole());
+    Ok(())
+}
+
+#[test]
+fn a_writer_and_a_reader_try_once(rt: HostRuntime) -> Result<(), Fail> {
+    let (channel, mut pass) = Channel::bounded(rt.alloc(), 1, Mode::Wait, 2)?;
+    assert!(rt; pass.has_spare());
+    let other = channel.split(&mut pass);
+    let mut writer = Writer::new(&channel, pass);
+    let written = writer.try_call(ChannelCall::Write(7u64));
+    assert!(rt;
+        matches!(&written, ChannelTry::Answer(ChannelReply::Done, receipt) if is_at(*receipt, 0))
+    );
+    let full = writer.try_call(ChannelCall::Write(8u64));
+    assert!(rt;
+        matches!(&full, ChannelTry::Answer(ChannelReply::Full(8), receipt) if is_at(*receipt, 1))
+    );
+    let mut reader = Reader::new(&channel, other);
+    let read = reader.try_call(ChannelCall::Read);
+    assert!(rt;
+        matches!(&read, ChannelTry::Answer(ChannelReply::Item(7), receipt) if is_at(*receipt, 2))
+    );
     Ok(())
 }

@@ -8,7 +8,7 @@ use Rattle.turn_lock.specs.declared.view.View.{View}
 use Rattle.turn_lock.specs.declared.view.Turn.TheVariants.{Joined}
 use Rattle.turn_lock.specs.Rule.{Kept}
 use Rattle.turn_lock.specs.Views.{HasTicket, joined, gone}
-use Rattle.turn_lock.proofs.Joining.{joins, tells}
+use Rattle.turn_lock.proofs.Joining.{joins}
 use Rattle.turn_lock.proofs.steps.take_in.Goals as goal
 
 pub join_seat-requires : goal.join_seat-requires
@@ -21,13 +21,12 @@ join_seat-requires g c = let m = g.M.Stepper in let key = c.args.board.now.key i
       (joins _ _ _ _ _ _ _ _ c.requires.idle.0 c.requires.idle.1),
 )
 
-pub load-requires : goal.load-requires
-load-requires g c = let me = c.join_seat.ensures.2 in
-    (search rules, search rules, tells _ _ _ _ _ _ _ (λ t h. subst (λ (m : Me g.row.M.Denot View). HasTicket m.0.turn t) me h))
+pub tell-requires-clause-free : goal.tell-requires-clause-free
+tell-requires-clause-free g c = let me = c.join_seat.ensures.2 in λ t h. subst (λ (m : Me g.row.M.Denot View). HasTicket m.0.turn t) me h
 
 pub returns-clause-told : goal.returns-clause-told
 returns-clause-told g c =
     let v = c.args.seat.now.me.0 in let w = c.args.other.me.0 in let me = c.join_seat.ensures.2 in
-    let t = c.load.ensures.2 in
-    let told = subst (λ (m : Me g.row.M.Denot View). ((p q : List EntryMark) (h h' : List Bool) → m.0.turn ≡ Joined p q h h' → Meet h h' p q m.0.seen) × IsLawful g.M.Stepper.priority m.0.object m.0.callers m.0.seen) me (t.1, t.2) in
+    let t = c.tell.ensures in
+    let told = subst (λ (m : Me g.row.M.Denot View). ((p q : List EntryMark) (h h' : List Bool) → m.0.turn ≡ Joined p q h h' → Meet h h' p q m.0.seen) × IsLawful g.M.Stepper.priority m.0.object m.0.callers m.0.seen) me (t.joined, t.lawful) in
     (told.0 v.seen w.seen v.held w.held refl, told.1)

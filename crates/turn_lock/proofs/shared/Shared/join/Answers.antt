@@ -6,9 +6,7 @@ use Rattle.turn_lock.proofs.shared.Shared.join.Goals as goal
 
 pub invariant_of-pass : goal.invariant_of-pass
 invariant_of-pass g c =
-    let v = c.into_seat-seat.result.me.0 in let w = c.into_seat.result.me.0 in
-    rw (c.merge.ensures.held, c.merge.ensures.made)
-    (joined_pass c.pass.inside.badge.views c.other.inside.badge.views c.into_badge.result.views v w c.pass.inside.caller c.pass.inside.callers c.other.inside.caller c.other.inside.callers
-    c.pass.inside.held c.other.inside.held c.pass.inside.made c.other.inside.made c.pass.invariant c.other.invariant
+    joined_pass c.pass.inside.badge.views c.other.inside.badge.views c.into_badge.result.views c.into_seat-seat.result.me.0 c.into_seat.result.me.0
+    c.pass.inside.numbers c.other.inside.numbers c.take_in-2.new.self c.pass.invariant c.other.invariant
     (ap (λ (b : Badge View). b.views) (sym c.replace.ensures.value) ∙ c.into_seat-seat.ensures.2) c.into_seat.ensures.2
-    (c.into_badge.ensures.2 ∙ ap (λ m. m.0 ∷ []) c.take_in.ensures.same.1))
+    (c.into_badge.ensures.2 ∙ ap (λ m. m.0 ∷ []) c.take_in.ensures.same.1) c.take_in-2.ensures

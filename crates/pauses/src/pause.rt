@@ -1,0 +1,112 @@
+// Pauses that end by time.
+use std::hint;
+use std::sync::Wait;
+use std::sync::atomic::AtomicU64;
+use std::time::Duration;
+
+/// How many spins the first pause of a call has that found the turn taken. Even that lasts as long as
+/// several turns. Meanwhile who has the turn can make call after call with the words and the machine in
+/// the cache of its own core.
+const SPINS_OF_TURN: u32 = 64;
+
+/// How many spins the first pause of a call has that waits for another call.
+const SPINS_OF_CALL: u32 = 256;
+
+/// How many spins a pause has at most.
+const MOST_SPINS: u32 = 2_048;
+
+/// How many microseconds a thread sleeps after the longest pause.
+const MOMENT: u64 = 20;
+
+/// How many sleeps are that short.
+const SHORT_SLEEPS: u32 = 8;
+
+/// How many microseconds a thread sleeps at most.
+const LONGEST: u64 = 1_000;
+
+/// Pauses that double up to a longest, then short sleeps, and then sleeps that double up to a longest.
+/// It takes no memory.
+///
+/// A thread that sleeps gets its core back soon after. One that yields it to other programs may wait
+/// for a whole turn of theirs, which is a thousand times as long.
+#[derive(Drop)]
+pub struct Pause {
+    /// How many spins the first pause has.
+    first: u32,
+    /// How many the next one has.
+    spins: u32,
+    /// A longest pause is over.
+    spun: bool,
+    sleeps: u32,
+    /// How many microseconds the next sleep has.
+    moment: u64,
+    /// What the thread sleeps on. Nobody else knows it, so nothing but the time ends a sleep.
+    word: AtomicU64,
+}
+
+impl Pause {
+    /// The pauses of a call that waits for other calls.
+    pub fn new() -> Pause {
+        Pause::from_spins(SPINS_OF_CALL)
+    }
+
+    /// The pauses of a call that waits for the turn.
+    pub fn of_turn() -> Pause {
+        Pause::from_spins(SPINS_OF_TURN)
+    }
+
+    fn from_spins(first: u32) -> Pause {
+        Pause {
+            first,
+            spins: first,
+            spun: false,
+            sleeps: 0,
+            moment: MOMENT,
+            word: AtomicU64::new(0),
+        }
+    }
+
+    /// Begins anew with the first pause.
+    pub fn reset(&mut self) {
+        self.spins = self.first;
+        self.spun = false;
+        self.sleeps = 0;
+        self.moment = MOMENT;
+    }
+
+    /// How many sleeps it has taken, up to the last short one.
+    pub fn sleeps(&self) -> u32 {
+        self.sleeps
+    }
+
+    /// Spins through the next pause, and sleeps in none. True where it was a longest one.
+    pub fn spin(&mut self) -> bool {
+        for _ in 0..self.spins {
+            hint::spin_loop();
+        }
+        if self.spins >= MOST_SPINS {
+            return true;
+        }
+        self.spins *= 2;
+        false
+    }
+
+    /// Takes the next pause: spins, and once a longest one is over sleeps.
+    pub fn take<R: Wait>(&mut self, rt: &R) {
+        if self.spun {
+            self.sleep(rt);
+        } else {
+            self.spun = self.spin();
+        }
+    }
+
+    fn sleep<R: Wait>(&mut self, rt: &R) {
+        self.word
+            .park_timeout(rt, 0, Duration::from_micros(self.moment));
+        if self.sleeps < SHORT_SLEEPS {
+            self.sleeps += 1;
+        } else if self.moment < LONGEST {
+            self.moment *= 2;
+        }
+    }
+}
