@@ -2,7 +2,7 @@
 ghost use Rattle.std.specs.Prelude.{◌≡◌, ◌+◌, true, false, IfOk, IsTrue};
 ghost use Rattle.cancel_flag.specs.Seen.{IsNewPair, new_token};
 
-use crate::rule::{CancelWord, Load, MakeToken, Seat, Swap};
+use crate::rule::{CancelWord, Load, LookBack, MakeToken, Seat, ShowToken, Swap, TellToken};
 use ho_base::NoMemory;
 use std::alloc::Global;
 use std::marker::Model;
@@ -83,6 +83,37 @@ impl CancelSource {
         ensures { self.new ≡ record self.old { seen = true } }
     {
         self.word.swap_as::<Swap, R>(rt, &mut self.seat, [SET]);
+    }
+
+    /// Loads the word once, and answers whether it read 1, which it does exactly where the source has
+    /// cancelled (`CancellationTokenSource.IsCancellationRequested`). Takes no memory.
+    #[tactic(auto, using(crate::proofs::Steps::rule_after_look_back))]
+    pub fn is_cancelled<R: Wait>(&mut self, rt: &R) -> bool
+        ensures unchanged { self.new ≡ self.old }
+        ensures answer { result ≡ self.old.seen }
+    {
+        self.word.load_as::<LookBack, R>(rt, &mut self.seat)[0] == SET
+    }
+
+    /// Tells a token of its word whether it has cancelled, by one load of its own.
+    ///
+    /// The token may have seen 1 before only where the source had cancelled. Afterwards it has seen 1
+    /// exactly where the source has, so that where it has, the token's next look answers true. Takes
+    /// no memory.
+    #[tactic(auto, using(crate::proofs::Steps::rule_after_split, crate::proofs::Steps::rule_after_look_back, crate::proofs::Steps::rule_after_show, crate::proofs::Steps::rule_after_tell))]
+    pub fn tell<R: Wait>(&mut self, rt: &R, token: &mut CancelToken)
+        requires { token.old.word ≡ self.old.word }
+        ensures unchanged { self.new ≡ self.old }
+        ensures only_where_cancelled { token.old.seen ≡ true → self.old.seen ≡ true }
+        ensures told { token.new ≡ record token.old { seen = self.old.seen } }
+    {
+        let seen_by_token = self.word.split_pass::<MakeToken>(&mut token.seat);
+        self.word
+            .join_pass::<ShowToken>(&mut self.seat, seen_by_token);
+        self.word.load_as::<LookBack, R>(rt, &mut self.seat);
+        let seen_by_source = self.word.split_pass::<MakeToken>(&mut self.seat);
+        self.word
+            .join_pass::<TellToken>(&mut token.seat, seen_by_source);
     }
 }
 

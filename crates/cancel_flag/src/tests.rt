@@ -19,6 +19,20 @@ fn a_new_token_is_not_cancelled(rt: HostRuntime) -> Result<(), Fail> {
 }
 
 #[test]
+fn a_source_tells_its_token_whether_it_has_cancelled(rt: HostRuntime) -> Result<(), Fail> {
+    let (mut source, mut token) = cancel_pair(rt.alloc())?;
+    source.tell(&rt, &mut token);
+    assert!(rt; !source.is_cancelled(&rt) && !token.is_cancelled(&rt));
+    source.cancel(&rt);
+    source.tell(&rt, &mut token);
+    assert!(rt; source.is_cancelled(&rt) && token.is_cancelled(&rt));
+    let mut other = token.another(&rt)?;
+    source.tell(&rt, &mut other);
+    assert!(rt; other.is_cancelled(&rt));
+    Ok(())
+}
+
+#[test]
 fn all_tokens_of_a_word_see_its_cancel(rt: HostRuntime) -> Result<(), Fail> {
     let (mut source, mut first) = cancel_pair(rt.alloc())?;
     let (_other_source, mut apart) = cancel_pair(rt.alloc())?;
