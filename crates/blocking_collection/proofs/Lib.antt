@@ -1,3 +1,4 @@
+pub mod Looks
 pub mod Doing
 pub mod Places
 pub mod Trying

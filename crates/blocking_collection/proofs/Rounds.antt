@@ -1,49 +1,51 @@
 -- Rounds, one after another.
-use Rattle.std.proofs.Common.{◌≡◌, ℕ, suc, ◌<◌, ◌+◌, List, [], ◌∷◌, ◌++◌, Bool, true, false, refl, sym, ap, ◌∙◌, subst, arith, length, All, get_or}
+use Rattle.std.proofs.Common.{◌≡◌, ℕ, suc, ◌<◌, ◌+◌, List, [], ◌∷◌, ◌++◌, Bool, true, false, refl, sym, ap, ◌∙◌, subst, arith, length, All, get_or, ◌⊎◌, inl, inr}
+use Rattle.std.specs.Prelude.{IsTrue}
 use Rattle.std.proofs.lemmas.List.Elements.{All-nil, All-cons, All-append}
 use Rattle.std.proofs.Math.ListN.{length-append}
 use Rattle.atomic_table.specs.Seated.{TableId}
 use Rattle.ho_base.specs.Marks.{Mark}
-use Rattle.turn_lock.specs.Passes.{PassView}
-use Rattle.blocking_collection.specs.Deeds.{Deed, times}
+use Rattle.turn_lock.specs.Passes.{LockPass}
+use Rattle.blocking_collection.specs.Own.{OwnCall, times}
+use Rattle.cancel_flag.specs.Seen.{Token}
+use Rattle.blocking_collection.specs.Looks.{LooksInVain, SeesAtLast}
 use Rattle.blocking_collection.specs.Tries.{Tries, Stops}
-use Rattle.blocking_collection.specs.Anys.{AllOf, AllDid, no_item, no_items}
-use Rattle.blocking_collection.specs.AnyWaits.{SomeEmpty, Takes, StopsTaking}
+use Rattle.blocking_collection.specs.Several.{AllOf, AllDid, no_item, no_items}
+use Rattle.blocking_collection.specs.SeveralWaits.{SomeEmpty, Takes, StopsTaking}
+use Rattle.blocking_collection.proofs.Looks.{no_look, looks_again, sees_at_last}
 use Rattle.blocking_collection.proofs.Doing.{same_table}
 use Rattle.blocking_collection.proofs.Places.{all_on, all_same}
 
-times_more : (n : ℕ) (ds : List Deed) → times (n + 1) ds ≡ times n ds ++ ds
+times_more : (n : ℕ) (ds : List OwnCall) → times (n + 1) ds ≡ times n ds ++ ds
 times_more n ds = ap (λ (k : ℕ). times k ds) one
   where
     one : n + 1 ≡ suc n
     one = omega arith
 
-module _ (again : List Deed) (looks : ℕ) where
-  pub start : (A : List Deed → Type 0) (seen : Bool) → A [] → Tries again A looks looks seen
-  start A seen a = record { rounds = 0; looked = omega arith; unseen = λ h. absurd (omega (arith, h)); then = a }
+module _ (again : List OwnCall) (t : Token) where
+  pub start : (A : List OwnCall → Type 0) → A [] → Tries again A t t
+  start A a = record { rounds = 0; looked = no_look t; then = a }
 
-  pub more : (A B : List Deed → Type 0) (j k : ℕ) (s t : Bool) → Tries again A looks j s → k ≡ j + 1 → t ≡ false → ((b : List Deed) → A b → B (b ++ again)) → Tries again B looks k t
-  more A B j k s t r one unseen on = record {
-    rounds = r.rounds + 1;
-    looked = omega (arith, r.looked, one);
-    unseen = λ h. unseen;
-    then = subst B (sym (times_more r.rounds again)) (on (times r.rounds again) r.then);
-  }
+  module _ (A B : List OwnCall → Type 0) (u : Token) (before : Tries again A t u) where
+    pub ends : ((b : List OwnCall) → A b → B b) → Tries again B t u
+    ends on = record { rounds = before.rounds; looked = before.looked; then = on (times before.rounds again) before.then }
 
-  pub ends : (A B : List Deed → Type 0) (j : ℕ) (s : Bool) → Tries again A looks j s → ((b : List Deed) → A b → B b) → Tries again B looks j s
-  ends A B j s r on = record { rounds = r.rounds; looked = r.looked; unseen = r.unseen; then = on (times r.rounds again) r.then }
+    round_more : ((b : List OwnCall) → A b → B (b ++ again)) → B (times (before.rounds + 1) again)
+    round_more on = subst B (sym (times_more before.rounds again)) (on (times before.rounds again) before.then)
 
-  pub stops : (A B : List Deed → Type 0) (j k : ℕ) (s t : Bool) → Tries again A looks j s → k ≡ j + 1 → t ≡ true → ((b : List Deed) → A b → B (b ++ again)) → Stops again B looks k t
-  stops A B j k s t r one seen on = record {
-    rounds = r.rounds + 1;
-    some = omega arith;
-    looked = omega (arith, r.looked, one);
-    is_seen = seen;
-    then = subst B (sym (times_more r.rounds again)) (on (times r.rounds again) r.then);
-  }
+    pub more : (v : Token) → v ≡ record u { looks = u.looks + 1; seen = false } → (u.seen ≡ true → IsTrue false) → ((b : List OwnCall) → A b → B (b ++ again)) → Tries again B t v
+    more v look for_good on = record { rounds = before.rounds + 1; looked = looks_again t u v before.rounds before.looked look for_good; then = round_more on }
+
+    pub stops : (v : Token) → v ≡ record u { looks = u.looks + 1; seen = true } → ((b : List OwnCall) → A b → B (b ++ again)) → Stops again B t v
+    stops v look on = record { rounds = before.rounds + 1; looked = sees_at_last t u v before.rounds before.looked look; then = round_more on }
+
+-- a token is not looked at where there is no member
+pub not_looked : (t u : Token) (n : ℕ) → (u ≡ t) ⊎ (0 < n) → n ≡ 0 → u ≡ t
+not_looked t u n (inl same) none = same
+not_looked t u n (inr some) none = absurd (omega arith)
 
 -- the passes are still of their collections
-pub still_of : (pr : Mark → ℕ) (collections : List TableId) (old new : List PassView) (ds : ℕ → List Deed) → AllOf collections old → AllDid pr old ds new → AllOf collections new
+pub still_of : (pr : Mark → ℕ) (collections : List TableId) (old new : List LockPass) (ds : ℕ → List OwnCall) → AllOf collections old → AllDid pr old ds new → AllOf collections new
 still_of pr collections old new ds of did = record {
   size = did.size ∙ of.size;
   each = λ i p c lt. same_table pr (get_or old i p) (get_or new i p) (ds i) (did.each i p (subst (λ (n : ℕ). i < n) (sym of.size) lt)) ∙ of.each i p c lt;
@@ -52,39 +54,38 @@ still_of pr collections old new ds of did = record {
 -- rounds of takes
 no_items_more : (rs : List (ℕ → Bool)) (f : ℕ → Bool) (j : ℕ) → no_items (rs ++ f ∷ []) j ≡ no_items rs j ++ no_item j (f j) ∷ []
 no_items_more [] f j = refl
-no_items_more (g ∷ rs) f j = ap (λ (l : List Deed). no_item j (g j) ∷ l) (no_items_more rs f j)
+no_items_more (g ∷ rs) f j = ap (λ (l : List OwnCall). no_item j (g j) ∷ l) (no_items_more rs f j)
 
-pub round_taken : (pr : Mark → ℕ) (old mid new : List PassView) (rs : List (ℕ → Bool)) (f : ℕ → Bool) → AllDid pr old (no_items rs) mid → AllDid pr mid (λ j. no_item j (f j) ∷ []) new → AllDid pr old (no_items (rs ++ f ∷ [])) new
+pub round_taken : (pr : Mark → ℕ) (old mid new : List LockPass) (rs : List (ℕ → Bool)) (f : ℕ → Bool) → AllDid pr old (no_items rs) mid → AllDid pr mid (λ j. no_item j (f j) ∷ []) new → AllDid pr old (no_items (rs ++ f ∷ [])) new
 round_taken pr old mid new rs f a b = all_same pr old new (λ j. no_items rs j ++ no_item j (f j) ∷ []) (no_items (rs ++ f ∷ [])) (λ j lt. no_items_more rs f j) (all_on pr old mid new (no_items rs) (λ j. no_item j (f j) ∷ []) a b)
 
-module _ (n looks : ℕ) where
-  one_more : (rs : List (ℕ → Bool)) (f : ℕ → Bool) → length (rs ++ f ∷ []) ≡ length rs + 1
-  one_more rs f = length-append rs (f ∷ [])
+module _ (n : ℕ) (t : Token) where
+  pub take_start : (A : List (ℕ → Bool) → Type 0) → A [] → Takes n A t t
+  take_start A a = record { rounds = []; some_empty = All-nil (SomeEmpty n); looked = no_look t; then = a }
 
-  all_more : (rs : List (ℕ → Bool)) (f : ℕ → Bool) → All (SomeEmpty n) rs → SomeEmpty n f → All (SomeEmpty n) (rs ++ f ∷ [])
-  all_more rs f a e = All-append (SomeEmpty n) rs (f ∷ []) a (All-cons (SomeEmpty n) f [] e (All-nil (SomeEmpty n)))
+  module _ (A B : List (ℕ → Bool) → Type 0) (u : Token) (before : Takes n A t u) where
+    pub take_ends : ((b : List (ℕ → Bool)) → A b → B b) → Takes n B t u
+    take_ends on = record { rounds = before.rounds; some_empty = before.some_empty; looked = before.looked; then = on before.rounds before.then }
 
-  pub take_start : (A : List (ℕ → Bool) → Type 0) (seen : Bool) → A [] → Takes n A looks looks seen
-  take_start A seen a = record { rounds = []; some_empty = All-nil (SomeEmpty n); looked = omega arith; unseen = λ h. absurd (omega (arith, h)); then = a }
+    module _ (f : ℕ → Bool) (e : SomeEmpty n f) (v : Token) where
+      one_more : length before.rounds + 1 ≡ length (before.rounds ++ f ∷ [])
+      one_more = sym (length-append before.rounds (f ∷ []))
 
-  pub take_more : (A B : List (ℕ → Bool) → Type 0) (j k : ℕ) (s t : Bool) (f : ℕ → Bool) → Takes n A looks j s → SomeEmpty n f → k ≡ j + 1 → t ≡ false → ((b : List (ℕ → Bool)) → A b → B (b ++ f ∷ [])) → Takes n B looks k t
-  take_more A B j k s t f r e one unseen on = record {
-    rounds = r.rounds ++ f ∷ [];
-    some_empty = all_more r.rounds f r.some_empty e;
-    looked = omega (arith, r.looked, one, one_more r.rounds f);
-    unseen = λ h. unseen;
-    then = on r.rounds r.then;
-  }
+      all_more : All (SomeEmpty n) (before.rounds ++ f ∷ [])
+      all_more = All-append (SomeEmpty n) before.rounds (f ∷ []) before.some_empty (All-cons (SomeEmpty n) f [] e (All-nil (SomeEmpty n)))
 
-  pub take_ends : (A B : List (ℕ → Bool) → Type 0) (j : ℕ) (s : Bool) → Takes n A looks j s → ((b : List (ℕ → Bool)) → A b → B b) → Takes n B looks j s
-  take_ends A B j s r on = record { rounds = r.rounds; some_empty = r.some_empty; looked = r.looked; unseen = r.unseen; then = on r.rounds r.then }
+      pub take_more : v ≡ record u { looks = u.looks + 1; seen = false } → (u.seen ≡ true → IsTrue false) → ((b : List (ℕ → Bool)) → A b → B (b ++ f ∷ [])) → Takes n B t v
+      take_more look for_good on = record {
+        rounds = before.rounds ++ f ∷ [];
+        some_empty = all_more;
+        looked = subst (λ (k : ℕ). LooksInVain k t v) one_more (looks_again t u v (length before.rounds) before.looked look for_good);
+        then = on before.rounds before.then;
+      }
 
-  pub take_stops : (A B : List (ℕ → Bool) → Type 0) (j k : ℕ) (s t : Bool) (f : ℕ → Bool) → Takes n A looks j s → SomeEmpty n f → k ≡ j + 1 → t ≡ true → ((b : List (ℕ → Bool)) → A b → B (b ++ f ∷ [])) → StopsTaking n B looks k t
-  take_stops A B j k s t f r e one seen on = record {
-    rounds = r.rounds ++ f ∷ [];
-    some_empty = all_more r.rounds f r.some_empty e;
-    some = omega (arith, one_more r.rounds f);
-    looked = omega (arith, r.looked, one, one_more r.rounds f);
-    is_seen = seen;
-    then = on r.rounds r.then;
-  }
+      pub take_stops : v ≡ record u { looks = u.looks + 1; seen = true } → ((b : List (ℕ → Bool)) → A b → B (b ++ f ∷ [])) → StopsTaking n B t v
+      take_stops look on = record {
+        rounds = before.rounds ++ f ∷ [];
+        some_empty = all_more;
+        looked = subst (λ (k : ℕ). SeesAtLast k t v) one_more (sees_at_last t u v (length before.rounds) before.looked look);
+        then = on before.rounds before.then;
+      }

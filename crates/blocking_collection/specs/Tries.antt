@@ -1,19 +1,18 @@
--- Tries that are repeated while a token is looked at.
-use Rattle.std.specs.Prelude.{◌≡◌, ℕ, ◌+◌, ◌<◌, List, Bool, true, false}
-use Rattle.blocking_collection.specs.Deeds.{Deed, times}
+-- Tries that are repeated while a token is looked at. t is the token before, and u afterwards.
+use Rattle.std.specs.Prelude.{ℕ, List}
+use Rattle.cancel_flag.specs.Seen.{Token}
+use Rattle.blocking_collection.specs.Own.{OwnCall, times}
+use Rattle.blocking_collection.specs.Looks.{LooksInVain, SeesAtLast}
 
 -- So many rounds that ended nothing, with one look at the token after each, none of which saw 1; and
--- then what holds of these rounds. looks and looks' are the token's counts before and after.
-pub record Tries (again : List Deed) (Then : List Deed → Type 0) (looks looks' : ℕ) (seen : Bool) : Type 0 where
+-- then what holds of the calls of these rounds.
+pub record Tries (again : List OwnCall) (Then : List OwnCall → Type 0) (t u : Token) : Type 0 where
   pub rounds : ℕ
-  pub looked : looks' ≡ looks + rounds
-  pub unseen : 0 < rounds → seen ≡ false
+  pub looked : LooksInVain rounds t u
   pub then : Then (times rounds again)
 
 -- At least one such round, the look after the last of which saw 1.
-pub record Stops (again : List Deed) (Then : List Deed → Type 0) (looks looks' : ℕ) (seen : Bool) : Type 0 where
+pub record Stops (again : List OwnCall) (Then : List OwnCall → Type 0) (t u : Token) : Type 0 where
   pub rounds : ℕ
-  pub some : 0 < rounds
-  pub looked : looks' ≡ looks + rounds
-  pub is_seen : seen ≡ true
+  pub looked : SeesAtLast rounds t u
   pub then : Then (times rounds again)

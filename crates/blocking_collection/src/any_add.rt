@@ -1,10 +1,11 @@
 // Adds to any of several collections.
 ghost use Rattle.std.specs.Prelude.{◌≡◌, []};
-ghost use Rattle.blocking_collection.specs.Anys.{AllOf, Asks, Adds, TriedAdd};
-ghost use Rattle.blocking_collection.specs.AnyWaits.{AddedAny};
+ghost use Rattle.blocking_collection.specs.Several.{AllOf, Asks, Adds, TriedAdd};
+ghost use Rattle.blocking_collection.specs.SeveralWaits.{AddedAny};
 
 use crate::collection::BlockingCollection;
-use crate::singles::{AddReply, one_add, one_ask};
+use crate::singles;
+use crate::singles::AddReply;
 use cancel_flag::CancelToken;
 use ho_base::{Item, Unpaid};
 use pauses::Pause;
@@ -16,21 +17,22 @@ use turn_lock::Pass;
 pub enum AnyAdd<T> {
     /// The collection at this place has it.
     Index(usize),
-    /// Each of them was full.
+    /// Each of them was full. Only `try_add_any` answers so.
     NoneUsed(T),
     /// There are no collections.
     NoCollection(T),
     /// Adding to the collection at this place has ended, and it is the first that said so.
     Closed(usize, T),
-    /// The token asked to stop after each of them was full.
+    /// The token asked to stop after each of them was full. Only `add_any` answers so.
     Cancelled(T),
 }
 
 /// Adds an item to the first of the collections that is not full, unless adding to one of them has
 /// ended (`TryAddToAny`). The passes are those of the collections, in the same order.
 ///
-/// Each collection in order is first asked whether adding has ended. For want of memory the item
-/// comes back, and the entries made before stand.
+/// Each collection in order is first asked whether adding has ended, and then each in order is tried.
+/// For want of memory, which only an add without a bound or to a bag can meet, the item comes back:
+/// the collections before that one were full, and these entries stand.
 pub fn try_add_any<T: Item, R: Wait>(
     rt: &R,
     collections: &[BlockingCollection<T>],
@@ -51,7 +53,10 @@ pub fn try_add_any<T: Item, R: Wait>(
 }
 
 /// Adds an item to any of the collections, and tries again while all are full (`AddToAny`). The token
-/// is looked at after each round over all of them.
+/// is looked at after each round over all of them, and at no other time: over no collections never.
+///
+/// A token that is set does not refuse an item for which there is room. For want of memory the entries
+/// of earlier rounds stand too.
 pub fn add_any<T: Item, R: Wait>(
     rt: &R,
     collections: &[BlockingCollection<T>],
@@ -61,7 +66,7 @@ pub fn add_any<T: Item, R: Wait>(
 ) -> Result<AnyAdd<T>, Unpaid<T>>
     requires { AllOf collections.now passes.old }
     ensures word { token.new.word ≡ token.old.word }
-    ensures added { AddedAny T.priority_of T.mark token.old.looks token.new.looks token.new.seen item passes.old passes.new result }
+    ensures added { AddedAny T.priority_of T.mark token.old token.new item passes.old passes.new result }
     ensures still { AllOf collections.now passes.new }
 {
     let mut given = item;
@@ -95,7 +100,7 @@ fn first_closed<T: Item, R: Wait>(
     ensures { Asks T.priority_of passes.old passes.new result }
 {
     for i in 0..collections.len() {
-        if one_ask(rt, &collections[i], &mut passes[i]) {
+        if singles::is_adding_completed(rt, &collections[i], &mut passes[i]) {
             return Some(i);
         }
     }
@@ -114,7 +119,7 @@ fn add_first<T: Item, R: Wait>(
 {
     let mut given = item;
     for i in 0..collections.len() {
-        match one_add(rt, &collections[i], &mut passes[i], given) {
+        match singles::try_add(rt, &collections[i], &mut passes[i], given) {
             Ok(AddReply::Done) => return Ok(AnyAdd::Index(i)),
             Ok(AddReply::Full(back)) => given = back,
             Ok(AddReply::Closed(back)) => return Ok(AnyAdd::Closed(i, back)),

@@ -1,10 +1,11 @@
 // Takes from any of several collections.
 ghost use Rattle.std.specs.Prelude.{◌≡◌, []};
-ghost use Rattle.blocking_collection.specs.Anys.{AllOf, TriedTake};
-ghost use Rattle.blocking_collection.specs.AnyWaits.{TakenAny};
+ghost use Rattle.blocking_collection.specs.Several.{AllOf, TriedTake};
+ghost use Rattle.blocking_collection.specs.SeveralWaits.{TakenAny};
 
 use crate::collection::BlockingCollection;
-use crate::singles::{TakeReply, one_take};
+use crate::singles;
+use crate::singles::TakeReply;
 use cancel_flag::CancelToken;
 use ho_base::Item;
 use pauses::Pause;
@@ -16,13 +17,13 @@ use turn_lock::Pass;
 pub enum AnyTake<T> {
     /// An item of the collection at this place.
     Index(usize, T),
-    /// None of them has an item, and one may get one.
+    /// None of them has an item, and one may get one. Only `try_take_any` answers so.
     NoneUsed,
     /// There are no collections.
     NoCollection,
     /// Each of them has ended.
     Ended,
-    /// The token asked to stop after none had an item.
+    /// The token asked to stop after none had an item. Only `take_any` answers so.
     Cancelled,
 }
 
@@ -39,7 +40,7 @@ pub fn try_take_any<T: Item, R: Wait>(
 {
     let mut all_ended = true;
     for i in 0..collections.len() {
-        match one_take(rt, &collections[i], &mut passes[i]) {
+        match singles::try_take(rt, &collections[i], &mut passes[i]) {
             TakeReply::Item(item) => return AnyTake::Index(i, item),
             TakeReply::Empty => all_ended = false,
             TakeReply::Ended => {}
@@ -56,7 +57,8 @@ pub fn try_take_any<T: Item, R: Wait>(
 }
 
 /// Takes an item from any of the collections, and tries again while none has one and one may get one
-/// (`TakeFromAny`). The token is looked at after each round over all of them. Takes no memory.
+/// (`TakeFromAny`). The token is looked at after each round over all of them, and at no other time.
+/// One that is set does not refuse an item that is there. Takes no memory.
 pub fn take_any<T: Item, R: Wait>(
     rt: &R,
     collections: &[BlockingCollection<T>],
@@ -65,7 +67,7 @@ pub fn take_any<T: Item, R: Wait>(
 ) -> AnyTake<T>
     requires { AllOf collections.now passes.old }
     ensures word { token.new.word ≡ token.old.word }
-    ensures taken { TakenAny T.priority_of T.mark token.old.looks token.new.looks token.new.seen passes.old passes.new result }
+    ensures taken { TakenAny T.priority_of T.mark token.old token.new passes.old passes.new result }
     ensures still { AllOf collections.now passes.new }
 {
     let mut pause = Pause::new();

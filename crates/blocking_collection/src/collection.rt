@@ -1,10 +1,12 @@
 // A blocking collection that callers share.
-ghost use Rattle.std.specs.Prelude.{◌≡◌, ◌<◌, ◌≤◌, ◌++◌, ℕ, [], true, IfOk, IfErr, OnErr};
+ghost use Rattle.std.specs.Prelude.{◌≡◌, ◌<◌, ◌≤◌, IfOk};
 ghost use Rattle.std.specs.Option.{ForSome};
 
+use crate::news::Ring;
 use blocking_core::{BlockingCall, BlockingReply, BlockingState};
 use ho_base::{Item, NoMemory, Receipt, Unpaid};
 use ho_model::Store;
+use pauses::Bells;
 use std::alloc::Global;
 use std::marker::Model;
 use std::sync::Wait;
@@ -15,6 +17,8 @@ use turn_lock::{Pass, Shared};
 #[derive(Drop)]
 pub struct BlockingCollection<T: Item> {
     shared: Shared<BlockingState<T>>,
+    /// Beside these those sleep who wait for an item or for room.
+    pub(crate) bells: Bells,
 }
 
 impl<T: Item> Model for BlockingCollection<T> {
@@ -28,14 +32,11 @@ impl<T: Item> Model for BlockingCollection<T> {
 }
 
 impl<T: Item> BlockingCollection<T> {
-    ghost use Rattle.ho_model.specs.Entries.{entry};
     ghost use Rattle.ho_model.specs.declared.objects.Object.TheVariants as object;
-    ghost use Rattle.passes.specs.Numbers.{IsSpare, AreApart, held_count, held_both, made_both, give, only};
-    ghost use Rattle.passes.specs.Seen.{SeesOthers, IsLawful, longer};
-    ghost use Rattle.blocking_core.specs.Calls.{call_mark, reply_mark, fits};
-    ghost use Rattle.blocking_core.specs.Kept.{may_want};
-    ghost use Rattle.turn_lock.specs.Passes.{first_pass};
-    ghost use Rattle.turn_lock.specs.Calls.{IsSamePass, Answers, AddsNoEntry, CountsOne};
+    ghost use Rattle.passes.specs.Numbers.{held_count};
+    ghost use Rattle.passes.specs.Views.{first_pass};
+    ghost use Rattle.passes.specs.Calls.{IsSamePass, Splits, Joins};
+    ghost use Rattle.blocking_collection.specs.Singles.{OneCall};
 
     /// A collection without items, open for adding, for 1 to 64 callers, with room for 1 to 65,536
     /// items or without a bound; and the first pass, which holds all numbers.
@@ -51,17 +52,15 @@ impl<T: Item> BlockingCollection<T> {
     {
         let state = BlockingState::new(alloc, store, bound, callers)?;
         let (shared, pass) = Shared::new(alloc, state, callers)?;
-        Ok((BlockingCollection { shared }, pass))
+        let bells = Bells::new();
+        Ok((BlockingCollection { shared, bells }, pass))
     }
 
     /// Splits off a pass with the least number that can be given away. See `Shared::split`.
     pub fn split(&self, pass: &mut Pass) -> Pass
         requires table { pass.old.table ≡ self.now }
         requires spare { 1 < held_count pass.old.held }
-        ensures kept { pass.new ≡ record pass.old { held = give pass.old.held result.caller } }
-        ensures given { result ≡ record pass.old { caller = result.caller; held = only result.caller; met = [] } }
-        ensures spare { IsSpare pass.old.held pass.old.caller result.caller }
-        ensures least { (c : ℕ) → c < result.caller → ¬ IsSpare pass.old.held pass.old.caller c }
+        ensures { Splits pass.old pass.new result }
     {
         self.shared.split(pass)
     }
@@ -69,21 +68,13 @@ impl<T: Item> BlockingCollection<T> {
     /// Takes in another pass of the same collection. See `Shared::join`.
     pub fn join(&self, pass: &mut Pass, other: Pass)
         requires table { (pass.old.table ≡ self.now) × (other.table ≡ self.now) }
-        ensures joined { pass.new ≡ record pass.old {
-          held = held_both pass.old.held other.held;
-          made = made_both other.held pass.old.made other.made;
-          seen = longer pass.old.seen other.seen;
-          met = pass.old.met ++ other.met;
-        } }
-        ensures apart { AreApart pass.old.held other.held }
-        ensures first { SeesOthers pass.old.held pass.old.seen pass.new.seen }
-        ensures second { SeesOthers other.held other.seen pass.new.seen }
-        ensures lawful { IsLawful T.priority_of pass.new.object pass.new.callers pass.new.seen }
+        ensures { Joins T.priority_of pass.old other pass.new }
     {
         self.shared.join(pass, other)
     }
 
-    /// Waits for the turn, and makes a call. See `Shared::call`.
+    /// Waits for the turn, and makes a call. See `Shared::call`. A caller that has made 2^48 calls does
+    /// not return.
     ///
     /// For want of memory there is no entry and the call comes back. Only a snapshot can meet it, and
     /// an add where there is no bound or a list for each caller.
@@ -95,15 +86,9 @@ impl<T: Item> BlockingCollection<T> {
     ) -> Result<(BlockingReply<T>, Receipt), Unpaid<BlockingCall<T>>>
         requires { pass.old.table ≡ self.now }
         ensures pass { IsSamePass pass.old pass.new }
-        ensures counted { CountsOne pass.old pass.new }
-
-        ensures entry { IfOk result (λ r. Answers T.priority_of (λ tally. fits tally call r.0) pass.old
-            (entry pass.old.caller (call_mark T.mark call) (reply_mark T.mark r.0)) r.1 pass.new) }
-
-        ensures back { IfErr result (λ unpaid. unpaid.back ≡ call) }
-        ensures no_entry { OnErr result (AddsNoEntry T.priority_of pass.old pass.new × (pass.new.met ≡ pass.old.met)) }
-        ensures wanted { OnErr result (may_want pass.old.object (call_mark T.mark call) ≡ true) }
+        ensures called { OneCall T.priority_of T.mark pass.old pass.new call result }
     {
+        let _ring = Ring::after(&self.bells, &call);
         self.shared.call(rt, pass, call)
     }
 }

@@ -1,18 +1,22 @@
 // A caller of a collection.
-ghost use Rattle.std.specs.Prelude.{◌≡◌, true, IfOk, IfErr, OnErr};
+ghost use Rattle.std.specs.Prelude.{◌≡◌};
 
 use crate::collection::BlockingCollection;
-use crate::singles::{AddReply, TakeReply, one_add, one_ask, one_take};
-use crate::waits::{add_on, take_on};
+use crate::singles::{AddReply, TakeReply};
+use crate::{singles, waits};
 use blocking_core::{BlockingCall, BlockingReply};
 use cancel_flag::CancelToken;
 use ho_base::{Item, NoMemory, Receipt, Unpaid};
 use ho_model::Items;
+use pauses::{Tries, Want};
 use std::marker::Model;
 use std::sync::Wait;
 use turn_lock::Pass;
 
 /// A caller's right to a collection: the collection with a pass of it. Contracts see of it its pass.
+///
+/// Each call waits for its turn, and `add` and `take` alone wait for more. A caller that has made 2^48
+/// calls does not return.
 #[derive(Drop)]
 pub struct Member<'c, T: Item> {
     collection: &'c BlockingCollection<T>,
@@ -21,9 +25,9 @@ pub struct Member<'c, T: Item> {
 
 impl<'c, T: Item> Model for Member<'c, T> {
     ghost use Rattle.std.specs.Prelude.{◌≡◌};
-    ghost use Rattle.turn_lock.specs.Passes.{PassView};
+    ghost use Rattle.turn_lock.specs.Passes.{LockPass};
 
-    ghost Value = { PassView };
+    ghost Value = { LockPass };
 
     ghost view = { λ m. m.pass };
 
@@ -31,13 +35,11 @@ impl<'c, T: Item> Model for Member<'c, T> {
 }
 
 impl<'c, T: Item> Member<'c, T> {
-    ghost use Rattle.ho_model.specs.Entries.{entry};
-    ghost use Rattle.ho_model.specs.declared.marks.CallMark.TheVariants.{Add, Take, CompleteAdding, AddingCompleted, Completed, Count, Snap};
-    ghost use Rattle.ho_model.specs.declared.marks.ReplyMark.TheVariants.{Done, Flag, Counted, Numbers};
-    ghost use Rattle.blocking_core.specs.Calls.{call_mark, reply_mark, fits};
-    ghost use Rattle.blocking_core.specs.Kept.{may_want};
-    ghost use Rattle.turn_lock.specs.Calls.{IsSamePass, Answers, AddsOne, AddsNoEntry, CountsOne};
-    ghost use Rattle.blocking_collection.specs.Replies.{add_mark, take_mark, HandsBack, IsTried};
+    ghost use Rattle.ho_model.specs.declared.marks.CallMark.TheVariants.{CompleteAdding, AddingCompleted, Completed, Count};
+    ghost use Rattle.ho_model.specs.declared.marks.ReplyMark.TheVariants.{Done, Flag, Counted};
+    ghost use Rattle.passes.specs.Calls.{IsSamePass};
+    ghost use Rattle.turn_lock.specs.Calls.{Makes};
+    ghost use Rattle.blocking_collection.specs.Singles.{OneCall, OneAdd, OneTake, OneSnap};
     ghost use Rattle.blocking_collection.specs.Waits.{Added, Taken};
 
     /// A member of this collection by this pass.
@@ -48,6 +50,7 @@ impl<'c, T: Item> Member<'c, T> {
         Member { collection, pass }
     }
 
+    /// The pass, which may then serve another member.
     pub fn into_pass(self) -> Pass
         ensures { result ≡ self.entry }
     {
@@ -62,21 +65,18 @@ impl<'c, T: Item> Member<'c, T> {
     /// item comes back; with a bound, a first-in or last-in collection never wants any.
     pub fn try_add<R: Wait>(&mut self, rt: &R, item: T) -> Result<AddReply<T>, Unpaid<T>>
         ensures pass { IsSamePass self.old self.new }
-        ensures counted { CountsOne self.old self.new }
-        ensures entry { IfOk result (λ reply. AddsOne T.priority_of self.old (entry self.old.caller (Add (T.mark item)) (add_mark reply)) self.new) }
-        ensures handed_back { IfOk result (HandsBack item) }
-        ensures back { IfErr result (λ unpaid. unpaid.back ≡ item) }
-        ensures no_entry { OnErr result (AddsNoEntry T.priority_of self.old self.new × (self.new.met ≡ self.old.met)) }
-        ensures wanted { OnErr result (may_want self.old.object (Add (T.mark item)) ≡ true) }
+        ensures added { OneAdd T.priority_of T.mark self.old self.new item result }
     {
-        one_add(rt, self.collection, &mut self.pass, item)
+        singles::try_add(rt, self.collection, &mut self.pass, item)
     }
 
     /// Adds an item, and tries again while there is no room (`Add`). The token is looked at after
     /// each try that found none.
     ///
     /// The own entries are adds answered full, any number of them, and then the one that was done or
-    /// found the end of adding. For want of memory the former stand, and the item comes back.
+    /// found the end of adding. Each of these calls is counted. For want of memory the former stand, and
+    /// the item comes back; with a bound, a first-in or last-in collection never wants any. A token that
+    /// is set does not refuse an item for which there is room.
     pub fn add<R: Wait>(
         &mut self,
         rt: &R,
@@ -84,38 +84,40 @@ impl<'c, T: Item> Member<'c, T> {
         token: &mut CancelToken,
     ) -> Result<AddReply<T>, Unpaid<T>>
         ensures word { token.new.word ≡ token.old.word }
-        ensures added { Added T.priority_of T.mark token.old.looks token.new.looks token.new.seen item self.old self.new result }
+        ensures added { Added T.priority_of T.mark token.old token.new self.old self.new item result }
     {
-        add_on(rt, self.collection, &mut self.pass, item, token)
+        let collection = self.collection;
+        let mut tries = Tries::new(&collection.bells, self.pass.caller(), Want::Room);
+        waits::add(rt, collection, &mut self.pass, item, token, &mut tries)
     }
 
     /// Takes an item, if there is one (`TryTake`). Takes no memory.
     pub fn try_take<R: Wait>(&mut self, rt: &R) -> TakeReply<T>
         ensures pass { IsSamePass self.old self.new }
-        ensures counted { CountsOne self.old self.new }
-        ensures entry { AddsOne T.priority_of self.old (entry self.old.caller Take (take_mark T.mark result)) self.new }
-        ensures tried { IsTried result }
+        ensures taken { OneTake T.priority_of T.mark self.old self.new result }
     {
-        one_take(rt, self.collection, &mut self.pass)
+        singles::try_take(rt, self.collection, &mut self.pass)
     }
 
     /// Takes an item, and tries again while there is none (`Take`). The token is looked at after each
     /// try that found none. Takes no memory.
     ///
     /// The own entries are takes answered empty, any number of them, and then the one that took an
-    /// item or found that none can come.
+    /// item or found that none can come. Each of these calls is counted. A token that is set does not
+    /// refuse an item that is there.
     pub fn take<R: Wait>(&mut self, rt: &R, token: &mut CancelToken) -> TakeReply<T>
         ensures word { token.new.word ≡ token.old.word }
-        ensures taken { Taken T.priority_of T.mark token.old.looks token.new.looks token.new.seen self.old self.new result }
+        ensures taken { Taken T.priority_of T.mark token.old token.new self.old self.new result }
     {
-        take_on(rt, self.collection, &mut self.pass, token)
+        let collection = self.collection;
+        let mut tries = Tries::new(&collection.bells, self.pass.caller(), Want::Item);
+        waits::take(rt, collection, &mut self.pass, token, &mut tries)
     }
 
     /// Ends adding (`CompleteAdding`). It may be called again.
     pub fn complete_adding<R: Wait>(&mut self, rt: &R)
         ensures pass { IsSamePass self.old self.new }
-        ensures counted { CountsOne self.old self.new }
-        ensures entry { AddsOne T.priority_of self.old (entry self.old.caller CompleteAdding Done) self.new }
+        ensures completed { Makes T.priority_of self.old CompleteAdding Done self.new }
     {
         match self
             .collection
@@ -129,17 +131,15 @@ impl<'c, T: Item> Member<'c, T> {
     /// Whether adding has ended (`IsAddingCompleted`).
     pub fn is_adding_completed<R: Wait>(&mut self, rt: &R) -> bool
         ensures pass { IsSamePass self.old self.new }
-        ensures counted { CountsOne self.old self.new }
-        ensures entry { AddsOne T.priority_of self.old (entry self.old.caller AddingCompleted (Flag result)) self.new }
+        ensures told { Makes T.priority_of self.old AddingCompleted (Flag result) self.new }
     {
-        one_ask(rt, self.collection, &mut self.pass)
+        singles::is_adding_completed(rt, self.collection, &mut self.pass)
     }
 
     /// Whether adding has ended and no item is left (`IsCompleted`).
     pub fn is_completed<R: Wait>(&mut self, rt: &R) -> bool
         ensures pass { IsSamePass self.old self.new }
-        ensures counted { CountsOne self.old self.new }
-        ensures entry { AddsOne T.priority_of self.old (entry self.old.caller Completed (Flag result)) self.new }
+        ensures told { Makes T.priority_of self.old Completed (Flag result) self.new }
     {
         match self
             .collection
@@ -153,8 +153,7 @@ impl<'c, T: Item> Member<'c, T> {
     /// How many items there are (`Count`).
     pub fn count<R: Wait>(&mut self, rt: &R) -> u64
         ensures pass { IsSamePass self.old self.new }
-        ensures counted { CountsOne self.old self.new }
-        ensures entry { AddsOne T.priority_of self.old (entry self.old.caller Count (Counted result)) self.new }
+        ensures counted { Makes T.priority_of self.old Count (Counted result) self.new }
     {
         match self
             .collection
@@ -169,9 +168,7 @@ impl<'c, T: Item> Member<'c, T> {
     /// (`ToArray`). For want of memory there is no entry.
     pub fn to_vec<R: Wait>(&mut self, rt: &R) -> Result<Items, NoMemory>
         ensures pass { IsSamePass self.old self.new }
-        ensures counted { CountsOne self.old self.new }
-        ensures entry { IfOk result (λ numbers. AddsOne T.priority_of self.old (entry self.old.caller Snap (Numbers numbers)) self.new) }
-        ensures no_entry { OnErr result (AddsNoEntry T.priority_of self.old self.new × (self.new.met ≡ self.old.met)) }
+        ensures shown { OneSnap T.priority_of self.old self.new result }
     {
         match self.collection.call(rt, &mut self.pass, BlockingCall::Snap) {
             Ok((BlockingReply::Numbers(numbers), _)) => Ok(numbers),
@@ -187,12 +184,7 @@ impl<'c, T: Item> Member<'c, T> {
         call: BlockingCall<T>,
     ) -> Result<(BlockingReply<T>, Receipt), Unpaid<BlockingCall<T>>>
         ensures pass { IsSamePass self.old self.new }
-        ensures counted { CountsOne self.old self.new }
-        ensures entry { IfOk result (λ r. Answers T.priority_of (λ tally. fits tally call r.0) self.old
-            (entry self.old.caller (call_mark T.mark call) (reply_mark T.mark r.0)) r.1 self.new) }
-        ensures back { IfErr result (λ unpaid. unpaid.back ≡ call) }
-        ensures no_entry { OnErr result (AddsNoEntry T.priority_of self.old self.new × (self.new.met ≡ self.old.met)) }
-        ensures wanted { OnErr result (may_want self.old.object (call_mark T.mark call) ≡ true) }
+        ensures called { OneCall T.priority_of T.mark self.old self.new call result }
     {
         self.collection.call(rt, &mut self.pass, call)
     }

@@ -1,11 +1,10 @@
 // Single calls of a collection by a pass, which members and the calls over several share.
-ghost use Rattle.std.specs.Prelude.{◌≡◌, true, IfOk, IfErr, OnErr};
-ghost use Rattle.ho_model.specs.Entries.{entry};
-ghost use Rattle.ho_model.specs.declared.marks.CallMark.TheVariants.{Add, Take, AddingCompleted};
+ghost use Rattle.std.specs.Prelude.{◌≡◌};
+ghost use Rattle.ho_model.specs.declared.marks.CallMark.TheVariants.{AddingCompleted};
 ghost use Rattle.ho_model.specs.declared.marks.ReplyMark.TheVariants.{Flag};
-ghost use Rattle.blocking_core.specs.Kept.{may_want};
-ghost use Rattle.turn_lock.specs.Calls.{IsSamePass, AddsOne, AddsNoEntry, CountsOne};
-ghost use Rattle.blocking_collection.specs.Replies.{add_mark, take_mark, HandsBack, IsTried};
+ghost use Rattle.passes.specs.Calls.{IsSamePass};
+ghost use Rattle.turn_lock.specs.Calls.{Makes};
+ghost use Rattle.blocking_collection.specs.Singles.{OneAdd, OneTake};
 
 use crate::collection::BlockingCollection;
 use blocking_core::{BlockingCall, BlockingReply};
@@ -13,32 +12,34 @@ use ho_base::{Item, Unpaid};
 use std::sync::Wait;
 use turn_lock::Pass;
 
-/// What an add comes to.
+/// What an add comes to. An item that is not added comes back.
 #[derive(Debug, PartialEq, Eq, Drop)]
 pub enum AddReply<T> {
+    /// The item was added.
     Done,
-    /// There are as many items as the bound. The item comes back.
+    /// There are as many items as the bound. Only `try_add` answers so.
     Full(T),
-    /// Adding has ended. The item comes back.
+    /// Adding has ended.
     Closed(T),
-    /// The token asked to stop while there was no room. The item comes back.
+    /// The token asked to stop while there was no room. Only `add` answers so.
     Cancelled(T),
 }
 
 /// What a take comes to.
 #[derive(Debug, PartialEq, Eq, Drop)]
 pub enum TakeReply<T> {
+    /// The item that was taken.
     Item(T),
-    /// There is no item.
+    /// There is no item, and one may come. Only `try_take` answers so.
     Empty,
     /// There is no item, and adding has ended.
     Ended,
-    /// The token asked to stop while there was no item.
+    /// The token asked to stop while there was no item. Only `take` answers so.
     Cancelled,
 }
 
-/// One add.
-pub(crate) fn one_add<T: Item, R: Wait>(
+/// One add, which does not wait for room.
+pub(crate) fn try_add<T: Item, R: Wait>(
     rt: &R,
     collection: &BlockingCollection<T>,
     pass: &mut Pass,
@@ -46,12 +47,7 @@ pub(crate) fn one_add<T: Item, R: Wait>(
 ) -> Result<AddReply<T>, Unpaid<T>>
     requires { pass.old.table ≡ collection.now }
     ensures pass { IsSamePass pass.old pass.new }
-    ensures counted { CountsOne pass.old pass.new }
-    ensures entry { IfOk result (λ reply. AddsOne T.priority_of pass.old (entry pass.old.caller (Add (T.mark item)) (add_mark reply)) pass.new) }
-    ensures handed_back { IfOk result (HandsBack item) }
-    ensures back { IfErr result (λ unpaid. unpaid.back ≡ item) }
-    ensures no_entry { OnErr result (AddsNoEntry T.priority_of pass.old pass.new × (pass.new.met ≡ pass.old.met)) }
-    ensures wanted { OnErr result (may_want pass.old.object (Add (T.mark item)) ≡ true) }
+    ensures added { OneAdd T.priority_of T.mark pass.old pass.new item result }
 {
     match collection.call(rt, pass, BlockingCall::Add(item)) {
         Ok((BlockingReply::Done, _)) => Ok(AddReply::Done),
@@ -67,17 +63,15 @@ pub(crate) fn one_add<T: Item, R: Wait>(
     }
 }
 
-/// One take.
-pub(crate) fn one_take<T: Item, R: Wait>(
+/// One take, which does not wait for an item.
+pub(crate) fn try_take<T: Item, R: Wait>(
     rt: &R,
     collection: &BlockingCollection<T>,
     pass: &mut Pass,
 ) -> TakeReply<T>
     requires { pass.old.table ≡ collection.now }
     ensures pass { IsSamePass pass.old pass.new }
-    ensures counted { CountsOne pass.old pass.new }
-    ensures entry { AddsOne T.priority_of pass.old (entry pass.old.caller Take (take_mark T.mark result)) pass.new }
-    ensures tried { IsTried result }
+    ensures taken { OneTake T.priority_of T.mark pass.old pass.new result }
 {
     match collection.call(rt, pass, BlockingCall::Take) {
         Ok((BlockingReply::Item(item), _)) => TakeReply::Item(item),
@@ -88,15 +82,14 @@ pub(crate) fn one_take<T: Item, R: Wait>(
 }
 
 /// Whether adding has ended.
-pub(crate) fn one_ask<T: Item, R: Wait>(
+pub(crate) fn is_adding_completed<T: Item, R: Wait>(
     rt: &R,
     collection: &BlockingCollection<T>,
     pass: &mut Pass,
 ) -> bool
     requires { pass.old.table ≡ collection.now }
     ensures pass { IsSamePass pass.old pass.new }
-    ensures counted { CountsOne pass.old pass.new }
-    ensures entry { AddsOne T.priority_of pass.old (entry pass.old.caller AddingCompleted (Flag result)) pass.new }
+    ensures asked { Makes T.priority_of pass.old AddingCompleted (Flag result) pass.new }
 {
     match collection.call(rt, pass, BlockingCall::AddingCompleted) {
         Ok((BlockingReply::Flag(flag), _)) => flag,

@@ -3,30 +3,31 @@ ghost use Rattle.std.specs.Prelude.{◌≡◌};
 ghost use Rattle.blocking_collection.specs.Waits.{Added, Taken};
 
 use crate::collection::BlockingCollection;
-use crate::singles::{AddReply, TakeReply, one_add, one_take};
+use crate::singles;
+use crate::singles::{AddReply, TakeReply};
 use cancel_flag::CancelToken;
 use ho_base::{Item, Unpaid};
-use pauses::Pause;
+use pauses::Tries;
 use std::sync::Wait;
 use turn_lock::Pass;
 
-/// Adds, and tries again while the collection is full.
-pub(crate) fn add_on<T: Item, R: Wait>(
+/// Adds, and tries again while the collection is full. Who finds no memory leaves the room to others.
+pub(crate) fn add<T: Item, R: Wait>(
     rt: &R,
     collection: &BlockingCollection<T>,
     pass: &mut Pass,
     item: T,
     token: &mut CancelToken,
+    tries: &mut Tries<'_>,
 ) -> Result<AddReply<T>, Unpaid<T>>
     requires { pass.old.table ≡ collection.now }
     ensures table { pass.new.table ≡ pass.old.table }
     ensures word { token.new.word ≡ token.old.word }
-    ensures added { Added T.priority_of T.mark token.old.looks token.new.looks token.new.seen item pass.old pass.new result }
+    ensures added { Added T.priority_of T.mark token.old token.new pass.old pass.new item result }
 {
     let mut given = item;
-    let mut pause = Pause::new();
     for _ in rt.forever() {
-        match one_add(rt, collection, pass, given) {
+        match singles::try_add(rt, collection, pass, given) {
             Ok(AddReply::Done) => return Ok(AddReply::Done),
             Ok(AddReply::Closed(back)) => return Ok(AddReply::Closed(back)),
             Ok(AddReply::Full(back)) => {
@@ -36,28 +37,31 @@ pub(crate) fn add_on<T: Item, R: Wait>(
                 given = back;
             }
             Ok(AddReply::Cancelled(_)) => unreachable!(),
-            Err(unpaid) => return Err(unpaid),
+            Err(unpaid) => {
+                collection.bells.tell_room();
+                return Err(unpaid);
+            }
         }
-        pause.take(rt);
+        tries.pause(rt);
     }
     unreachable!()
 }
 
 /// Takes, and tries again while the collection is empty.
-pub(crate) fn take_on<T: Item, R: Wait>(
+pub(crate) fn take<T: Item, R: Wait>(
     rt: &R,
     collection: &BlockingCollection<T>,
     pass: &mut Pass,
     token: &mut CancelToken,
+    tries: &mut Tries<'_>,
 ) -> TakeReply<T>
     requires { pass.old.table ≡ collection.now }
     ensures table { pass.new.table ≡ pass.old.table }
     ensures word { token.new.word ≡ token.old.word }
-    ensures taken { Taken T.priority_of T.mark token.old.looks token.new.looks token.new.seen pass.old pass.new result }
+    ensures taken { Taken T.priority_of T.mark token.old token.new pass.old pass.new result }
 {
-    let mut pause = Pause::new();
     for _ in rt.forever() {
-        match one_take(rt, collection, pass) {
+        match singles::try_take(rt, collection, pass) {
             TakeReply::Item(item) => return TakeReply::Item(item),
             TakeReply::Ended => return TakeReply::Ended,
             TakeReply::Empty => {
@@ -67,7 +71,7 @@ pub(crate) fn take_on<T: Item, R: Wait>(
             }
             TakeReply::Cancelled => unreachable!(),
         }
-        pause.take(rt);
+        tries.pause(rt);
     }
     unreachable!()
 }

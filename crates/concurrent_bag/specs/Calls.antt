@@ -46,9 +46,12 @@ module _ {T : Type 0} where
   SnapFits (reply.Numbers numbers) = Unit {0}
   SnapFits _ = ⊥
 
+  abbrev pub Fits : BagCall T → BagReply T → Type 0
+  Fits (call.Add x) r = AddFits x r
+  Fits call.Take r = TakeFits r
+  Fits call.Count r = CountFits r
+  Fits call.Snap r = SnapFits r
+
   -- a bag tells no counts of receipts
   abbrev pub fits : Tally → BagCall T → BagReply T → Type 0
-  fits tally (call.Add x) r = AddFits x r
-  fits tally call.Take r = TakeFits r
-  fits tally call.Count r = CountFits r
-  fits tally call.Snap r = SnapFits r
+  fits tally call r = Fits call r

@@ -1,5 +1,5 @@
 // The bag that callers share.
-ghost use Rattle.std.specs.Prelude.{◌≡◌, ◌<◌, ◌≤◌, ◌++◌, ◌↔◌, ℕ, IfOk, IfErr, OnErr};
+ghost use Rattle.std.specs.Prelude.{◌≡◌, ◌<◌, ◌≤◌, IfOk};
 
 use crate::calls::{BagCall, BagReply};
 use crate::machine::BagMachine;
@@ -14,6 +14,7 @@ use turn_lock::Shared;
 /// What an add comes to.
 #[derive(Debug, PartialEq, Eq, Drop)]
 pub enum BagAdd<T> {
+    /// The item stands last in the caller's list.
     Done,
     /// The caller's list has as many items as a list may have. The item comes back.
     Full(T),
@@ -30,6 +31,10 @@ pub enum BagTake<T> {
 
 /// An unordered collection that up to 64 callers share, with a list for each, after .NET's
 /// `ConcurrentBag<T>`. To a contract it is its table.
+///
+/// A call waits for the others that call, and for nothing else. An answer counts one call of the
+/// caller, and want of memory at most one. As the bag is built, a caller whose count is 2^48 waits for
+/// good: no contract speaks of that. The receipt of each entry is its place in the bag's history.
 #[derive(Drop)]
 pub struct ConcurrentBag<T: Item> {
     shared: Shared<BagMachine<T>>,
@@ -48,16 +53,16 @@ impl<T: Item> Model for ConcurrentBag<T> {
 impl<T: Item> ConcurrentBag<T> {
     ghost use Rattle.ho_model.specs.Entries.{entry};
     ghost use Rattle.ho_model.specs.declared.marks.CallMark.TheVariants as callmark;
-    ghost use Rattle.ho_model.specs.declared.marks.ReplyMark.TheVariants.{Counted, Numbers};
-    ghost use Rattle.passes.specs.Numbers.{IsSpare, AreApart, held_count, held_both, give, only};
-    ghost use Rattle.passes.specs.Seen.{SeesOthers, IsLawful, longer};
-    ghost use Rattle.concurrent_bag.specs.Passes.{IsSamePass, Answers, AddsNoEntry, first_pass};
-    ghost use Rattle.concurrent_bag.specs.Replies.{add_mark, take_mark, HandsBack};
+    ghost use Rattle.ho_model.specs.declared.marks.ReplyMark.TheVariants.{Counted};
+    ghost use Rattle.passes.specs.Numbers.{held_count};
+    ghost use Rattle.passes.specs.Calls.{Splits, Joins};
+    ghost use Rattle.concurrent_bag.specs.Passes.{Answers, first_of};
+    ghost use Rattle.concurrent_bag.specs.Answers.{Ends, Adds, Snaps, take_mark};
 
     /// A bag without items for 1 to 64 callers, and the first pass, which holds all numbers.
     pub fn new(alloc: Global, callers: u32) -> Result<(ConcurrentBag<T>, BagPass), NoMemory>
         requires callers { (0 < callers) × (callers ≤ 64) }
-        ensures { IfOk result (λ made. made.1 ≡ first_pass made.0 callers) }
+        ensures { IfOk result (λ made. made.1 ≡ first_of made.0 callers) }
     {
         let machine = BagMachine::new(alloc, callers)?;
         let (shared, pass) = Shared::new(alloc, machine, callers)?;
@@ -70,10 +75,7 @@ impl<T: Item> ConcurrentBag<T> {
     pub fn split(&self, pass: &mut BagPass) -> BagPass
         requires table { pass.old.table ≡ self.now }
         requires spare { 1 < held_count pass.old.held }
-        ensures kept { pass.new ≡ record pass.old { held = give pass.old.held result.caller } }
-        ensures given { result ≡ record pass.old { caller = result.caller; held = only result.caller } }
-        ensures spare { IsSpare pass.old.held pass.old.caller result.caller }
-        ensures least { (c : ℕ) → c < result.caller → ¬ IsSpare pass.old.held pass.old.caller c }
+        ensures { Splits pass.old pass.new result }
     {
         BagPass {
             pass: self.shared.split(&mut pass.pass),
@@ -86,21 +88,14 @@ impl<T: Item> ConcurrentBag<T> {
     /// with entries of callers other than that pass's own. Takes no memory.
     pub fn join(&self, pass: &mut BagPass, other: BagPass)
         requires table { (pass.old.table ≡ self.now) × (other.table ≡ self.now) }
-        ensures joined { pass.new ≡ record pass.old {
-          held = held_both pass.old.held other.held;
-          seen = longer pass.old.seen other.seen;
-        } }
-        ensures apart { AreApart pass.old.held other.held }
-        ensures first { SeesOthers pass.old.held pass.old.seen pass.new.seen }
-        ensures second { SeesOthers other.held other.seen pass.new.seen }
-        ensures lawful { IsLawful T.priority_of pass.new.object pass.new.callers pass.new.seen }
+        ensures { Joins T.priority_of pass.old other pass.new }
     {
         let BagPass { pass: other } = other;
         self.shared.join(&mut pass.pass, other)
     }
 
-    /// Puts an item last in the caller's own list, if that has room (`Add`). For want of memory
-    /// there is no entry, and the item comes back.
+    /// Puts an item last in the caller's own list, if that has room (`Add`). A list has room for 16,383
+    /// items. For want of memory there is no entry, and the item comes back.
     pub fn add<R: Wait>(
         &self,
         rt: &R,
@@ -108,14 +103,9 @@ impl<T: Item> ConcurrentBag<T> {
         item: T,
     ) -> Result<(BagAdd<T>, Receipt), Unpaid<T>>
         requires { pass.old.table ≡ self.now }
-        ensures pass { IsSamePass pass.old pass.new }
-        ensures entry { IfOk result (λ r. Answers T.priority_of pass.old
-            (entry pass.old.caller (callmark.Add (T.mark item)) (add_mark r.0)) r.1 pass.new) }
-        ensures handed_back { IfOk result (λ r. HandsBack item r.0) }
-        ensures back { IfErr result (λ unpaid. unpaid.back ≡ item) }
-        ensures no_entry { OnErr result (AddsNoEntry T.priority_of pass.old pass.new) }
+        ensures { Adds T.priority_of T.mark pass.old pass.new item result }
     {
-        match self.shared.call(rt, &mut pass.pass, BagCall::Add(item)) {
+        match self.call(rt, pass, BagCall::Add(item)) {
             Ok((reply, receipt)) => match reply {
                 BagReply::Done => Ok((BagAdd::Done, receipt)),
                 BagReply::Full(back) => Ok((BagAdd::Full(back), receipt)),
@@ -134,11 +124,10 @@ impl<T: Item> ConcurrentBag<T> {
     /// another (`TryTake`). Takes no memory.
     pub fn take<R: Wait>(&self, rt: &R, pass: &mut BagPass) -> (BagTake<T>, Receipt)
         requires { pass.old.table ≡ self.now }
-        ensures pass { IsSamePass pass.old pass.new }
-        ensures entry { Answers T.priority_of pass.old
+        ensures { Answers T.priority_of pass.old
             (entry pass.old.caller callmark.Take (take_mark T.mark result.0)) result.1 pass.new }
     {
-        match self.shared.call(rt, &mut pass.pass, BagCall::Take) {
+        match self.call(rt, pass, BagCall::Take) {
             Ok((reply, receipt)) => match reply {
                 BagReply::Item { from, item } => (BagTake::Item { from, item }, receipt),
                 BagReply::Empty => (BagTake::Empty, receipt),
@@ -151,11 +140,10 @@ impl<T: Item> ConcurrentBag<T> {
     /// Counts the items (`Count`). Takes no memory.
     pub fn count<R: Wait>(&self, rt: &R, pass: &mut BagPass) -> (u64, Receipt)
         requires { pass.old.table ≡ self.now }
-        ensures pass { IsSamePass pass.old pass.new }
-        ensures entry { Answers T.priority_of pass.old
+        ensures { Answers T.priority_of pass.old
             (entry pass.old.caller callmark.Count (Counted result.0)) result.1 pass.new }
     {
-        match self.shared.call(rt, &mut pass.pass, BagCall::Count) {
+        match self.call(rt, pass, BagCall::Count) {
             Ok((BagReply::Count(count), receipt)) => (count, receipt),
             _ => unreachable!(),
         }
@@ -170,19 +158,29 @@ impl<T: Item> ConcurrentBag<T> {
         pass: &mut BagPass,
     ) -> Result<(Items, Receipt), NoMemory>
         requires { pass.old.table ≡ self.now }
-        ensures pass { IsSamePass pass.old pass.new }
-        ensures entry { IfOk result (λ r. Answers T.priority_of pass.old
-            (entry pass.old.caller callmark.Snap (Numbers r.0)) r.1 pass.new) }
-        ensures no_entry { OnErr result (AddsNoEntry T.priority_of pass.old pass.new) }
+        ensures { Snaps T.priority_of pass.old pass.new result }
     {
         // behind a turn the bag takes the memory, by the allocator that it keeps
         let _ = alloc;
-        match self.shared.call(rt, &mut pass.pass, BagCall::Snap) {
+        match self.call(rt, pass, BagCall::Snap) {
             Ok((reply, receipt)) => match reply {
                 BagReply::Numbers(numbers) => Ok((numbers, receipt)),
                 _ => unreachable!(),
             },
             Err(_) => Err(NoMemory),
         }
+    }
+
+    /// Waits for the turn, and makes the call.
+    fn call<R: Wait>(
+        &self,
+        rt: &R,
+        pass: &mut BagPass,
+        call: BagCall<T>,
+    ) -> Result<(BagReply<T>, Receipt), Unpaid<BagCall<T>>>
+        requires { pass.old.table ≡ self.now }
+        ensures { Ends T.priority_of T.mark pass.old pass.new call result }
+    {
+        self.shared.call(rt, &mut pass.pass, call)
     }
 }

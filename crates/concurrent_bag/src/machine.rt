@@ -4,7 +4,7 @@ ghost use Rattle.ho_model.specs.Bag as bag;
 ghost use Rattle.ho_model.specs.Tallies.{no_tally};
 ghost use Rattle.ho_model.specs.declared.marks.CallMark.TheVariants as callmark;
 ghost use Rattle.ho_model.specs.declared.objects.Object.TheVariants as object;
-ghost use Rattle.concurrent_bag.specs.Calls.{call_mark, reply_mark, AddFits, TakeFits, fits};
+ghost use Rattle.concurrent_bag.specs.Calls.{call_mark, reply_mark, AddFits, TakeFits, Fits, fits};
 ghost use Rattle.concurrent_bag.specs.Kept.{IsBagOf, state_of, may_want};
 
 use crate::calls::{BagCall, BagReply};
@@ -96,7 +96,7 @@ fn answer<T: Marked>(
     requires few { bag.item_count lists.old < 2 ^ 60 }
     ensures ok { IfOk result (λ reply.
         bag.bag_step lists.old caller (call_mark T.mark call) (reply_mark T.mark reply) ≡ Some lists.new) }
-    ensures fits { IfOk result (λ reply. fits no_tally call reply) }
+    ensures fits { IfOk result (λ reply. Fits call reply) }
     ensures more { bag.item_count lists.new ≤ bag.item_count lists.old + 1 }
     ensures back { IfErr result (λ unpaid. unpaid.back ≡ call) }
     ensures err { OnErr result (lists.new ≡ lists.old) }

@@ -7,19 +7,21 @@ use turn_lock::Pass;
 
 /// The right to call a shared bag under a number, and what its owner has seen of the bag.
 ///
-/// Contracts see of it the bag, its own number, the numbers that it holds, and the beginning of the
-/// bag's history that it has seen. It may move to another thread.
+/// Contracts see of it what they see of every pass: the bag, its own number, the numbers that it holds,
+/// the count of calls made under each, the beginning of the bag's history that it has seen, and the
+/// obstacles that its tries have met. It may move to another thread. One that is dropped keeps its
+/// numbers for good.
 #[derive(Drop)]
 pub struct BagPass {
     pub(crate) pass: Pass,
 }
 
 impl Model for BagPass {
-    ghost use Rattle.concurrent_bag.specs.Passes.{BagView, bag_view};
+    ghost use Rattle.turn_lock.specs.Passes.{LockPass};
 
-    ghost Value = { BagView };
+    ghost Value = { LockPass };
 
-    ghost view = { λ p. bag_view p.pass };
+    ghost view = { λ p. p.pass };
 }
 
 impl BagPass {

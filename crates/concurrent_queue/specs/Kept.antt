@@ -1,6 +1,6 @@
 -- What contracts see of a queue's machine.
 use Rattle.std.specs.Prelude.{◌≡◌, ℕ, ◌≤◌, List, Bool, true, false}
-use Rattle.ho_base.specs.Marks.{Mark}
+use Rattle.ho_base.specs.Marks.{Mark, number_priority}
 use Rattle.ho_model.specs.declared.marks.CallMark.{CallMark}
 use Rattle.ho_model.specs.declared.marks.CallMark.TheVariants.{Snap}
 use Rattle.ho_model.specs.declared.marks.EntryMark.{EntryMark}
@@ -10,28 +10,22 @@ use Rattle.ho_model.specs.declared.objects.Object.TheVariants as object
 use Rattle.ho_model.specs.Objects.{State, QueueState}
 use Rattle.ho_model.specs.Histories.{StandsFor}
 
--- steps is how many entries it has made
+-- first_len is the length of a first segment, and steps how many entries it has made
 pub record Kept : Type 0 where
   pub room : ℕ
+  pub first_len : ℕ
   pub items : List Mark
   pub tally : Tally
   pub steps : ℕ
 
--- the queue with so much room. The length of a first segment changes no answer: this is the least
-abbrev pub queue_object : ℕ → Object
-queue_object room = object.Queue room 2
-
 abbrev pub state_of : Kept → State
 state_of k = QueueState k.items
 
--- a queue has no priorities
-abbrev pub no_priority : Mark → ℕ
-no_priority mark = 0
-
--- the machine is a queue with so much room for 64 callers, and stands for the history
-abbrev pub IsQueueOf : ℕ → Kept → List EntryMark → Type 0
-IsQueueOf room k history =
-    StandsFor no_priority (λ q. queue_object q.room) (λ q. 64) state_of (λ q. q.steps) (λ q. q.tally) (queue_object room) 64 k history
+-- the machine is a queue with so much room and this length of a first segment, for 64 callers, and
+-- stands for the history
+abbrev pub IsQueueOf : ℕ → ℕ → Kept → List EntryMark → Type 0
+IsQueueOf room first_len k history =
+    StandsFor number_priority (λ q. object.Queue q.room q.first_len) (λ q. 64) state_of (λ q. q.steps) (λ q. q.tally) (object.Queue room first_len) 64 k history
 
 -- no count passes the count of steps
 abbrev pub IsSound : Tally → ℕ → Type 0

@@ -1,40 +1,34 @@
--- What contracts see of a queue and of its passes.
-use Rattle.std.specs.Prelude.{◌≡◌, ℕ, ◌+◌, ◌*◌, ◌≤◌, List, Bool, ◌++◌}
-use Rattle.atomic_table.specs.Seated.{TableId}
+-- What contracts see of the passes of a queue: p before a call, and q after.
+use Rattle.std.specs.Prelude.{◌≡◌, ℕ, List, Option, None}
 use Rattle.ho_base.specs.declared.receipts.Receipt.{Receipt}
 use Rattle.ho_model.specs.declared.marks.EntryMark.{EntryMark}
-use Rattle.ho_model.specs.declared.marks.Tally.{Tally}
-use Rattle.ho_model.specs.declared.objects.Object.{Object}
+use Rattle.ho_model.specs.QueueReceipts.{IsQueueReceipt}
 use Rattle.ho_model.specs.Tallies.{tally_of}
-use Rattle.passes.specs.Seen.{SeesEntry, IsLawful}
-use Rattle.turn_lock.specs.Passes.{PassView}
-use Rattle.concurrent_queue.specs.Kept.{no_priority}
+use Rattle.passes.specs.Views.{PassView}
+use Rattle.passes.specs.Calls.{Splits, Joins}
+use Rattle.passes.specs.Repeats.{EndsByEntry}
+use Rattle.turn_lock.specs.Passes.{LockPass}
+use Rattle.turn_lock.specs.declared.view.Obstacle.{Obstacle}
+use Rattle.ho_base.specs.Marks.{number_priority}
 
+-- What all passes have in common; and which window the pass has open, by the count of entries before
+-- the snapshot that opened it. No call opens one yet.
 pub record QueueView : Type 0 where
-  -- the queue that it is a pass of, with its parameters and its number of callers
-  pub table : TableId
-  pub object : Object
-  pub callers : ℕ
-  -- the number under which it calls
-  pub caller : ℕ
-  -- at each number below 64 whether it is held
-  pub held : List Bool
-  -- the beginning of the queue's history that it has seen
-  pub seen : List EntryMark
+  pub pass : PassView Obstacle
+  pub window : Option ℕ
 
-abbrev pub queue_view : PassView → QueueView
-queue_view p = record { table = p.table; object = p.object; callers = p.callers; caller = p.caller; held = p.held; seen = p.seen }
+abbrev pub queue_view : LockPass → QueueView
+queue_view p = record { pass = p; window = None }
 
--- no call changes which queue the pass is of, its caller, or the numbers that it holds
-pub record IsSamePass (p q : QueueView) : Type 0 where
-  pub table : q.table ≡ p.table
-  pub object : q.object ≡ p.object
-  pub callers : q.callers ≡ p.callers
-  pub caller : q.caller ≡ p.caller
-  pub held : q.held ≡ p.held
+-- After an answer of a call: one of its tries made this entry. The receipt is that of the entry, for the
+-- counts of the entries before it. No window is opened or ended.
+abbrev pub Answers : ℕ → QueueView → EntryMark → Receipt → QueueView → Type 0
+Answers first_len p e receipt q =
+    (before : List EntryMark) × EndsByEntry number_priority p.pass before e q.pass × IsQueueReceipt first_len e.call e.reply (tally_of before) receipt × (q.window ≡ p.window)
 
--- After an answer: what was seen goes on with entries of other callers, and then with this call's own
--- entry. All that is seen is legal. The receipt is one for the counts of the entries before.
-abbrev pub Answers : (Tally → Receipt → Type 0) → QueueView → EntryMark → Receipt → QueueView → Type 0
-Answers IsFor p e receipt q =
-    (before : List EntryMark) × SeesEntry p.held p.seen before e q.seen × IsLawful no_priority p.object p.callers q.seen × IsFor (tally_of before) receipt
+-- A split and a join are those of all passes. A pass that is split off has no window open.
+abbrev pub SplitsQueue : QueueView → QueueView → QueueView → Type 0
+SplitsQueue p q other = Splits p.pass q.pass other.pass × (q.window ≡ p.window) × (other.window ≡ None)
+
+abbrev pub JoinsQueue : QueueView → QueueView → QueueView → Type 0
+JoinsQueue p other q = Joins number_priority p.pass other.pass q.pass × (q.window ≡ p.window)

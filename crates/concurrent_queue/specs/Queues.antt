@@ -1,14 +1,11 @@
--- A shared queue: its makers' refusals, its replies and its receipts.
-use Rattle.std.specs.Prelude.{◌≡◌, ℕ, ◌*◌, ◌<◌, ◌≤◌, ◌⊎◌, [], ◌∷◌, IsTrue}
+-- A shared queue: its makers' refusals and its replies.
+use Rattle.std.specs.Prelude.{◌≡◌, ℕ, ◌<◌, ◌≤◌, ◌⊎◌, [], ◌∷◌, None, IsTrue}
 use Rattle.std.specs.Int.{is_power_of_two}
 use Rattle.atomic_table.specs.Seated.{TableId}
-use Rattle.ho_base.specs.declared.receipts.Receipt.{Receipt}
-use Rattle.ho_base.specs.declared.receipts.Receipt.TheVariants.{Enqueued, Dequeued, Peeked, Looked}
 use Rattle.ho_model.specs.declared.marks.ReplyMark.{ReplyMark}
 use Rattle.ho_model.specs.declared.marks.ReplyMark.TheVariants as replymark
-use Rattle.ho_model.specs.declared.marks.Tally.{Tally}
 use Rattle.ho_model.specs.declared.objects.Object.TheVariants as object
-use Rattle.passes.specs.Numbers.{first_held}
+use Rattle.passes.specs.Views.{first_pass}
 use Rattle.concurrent_queue.specs.Passes.{QueueView}
 use Rattle.concurrent_queue.specs.declared.queue.EnqueueReply.{EnqueueReply}
 use Rattle.concurrent_queue.specs.declared.queue.EnqueueReply.TheVariants as enqueue
@@ -29,20 +26,13 @@ pub record QueueId : Type 0 where
   pub room : ℕ
   pub first_len : ℕ
 
--- the first pass of a queue: caller 0, which holds all numbers and has seen nothing
-abbrev pub first_pass : QueueId → ℕ → QueueView
-first_pass q callers = record {
-  table = q.table;
-  object = object.Queue q.room q.first_len;
-  callers = callers;
-  caller = 0;
-  held = first_held callers;
-  seen = [];
-}
+-- the first pass of a queue, which has no window open
+abbrev pub first_of : QueueId → ℕ → QueueView
+first_of q callers = record { pass = first_pass q.table (object.Queue q.room q.first_len) callers; window = None }
 
--- the pass is of the queue
+-- the pass is of the queue, and has no window open
 abbrev pub IsOf : QueueId → QueueView → Type 0
-IsOf q p = (p.table ≡ q.table) × (p.object ≡ object.Queue q.room q.first_len)
+IsOf q p = (p.pass.table ≡ q.table) × (p.pass.object ≡ object.Queue q.room q.first_len) × (p.window ≡ None)
 
 abbrev pub enqueue_mark : EnqueueReply → ReplyMark
 enqueue_mark enqueue.Done = replymark.Done
@@ -51,25 +41,3 @@ enqueue_mark enqueue.Full = replymark.Full
 abbrev pub dequeue_mark : DequeueReply → ReplyMark
 dequeue_mark (dequeue.Item item) = replymark.Item (item ∷ [])
 dequeue_mark dequeue.Empty = replymark.Empty
-
--- a look tells how many items were taken, and how many enqueued
-abbrev pub IsLook : Tally → Receipt → Type 0
-IsLook t (Looked head tail) = (head ≡ t.taken) × (tail ≡ t.enqueued)
-IsLook t _ = ⊥
-
--- an enqueue tells how many items were enqueued before it, and its segment, which begins no later
-abbrev pub IsEnqueueReceipt : ℕ → EnqueueReply → Tally → Receipt → Type 0
-IsEnqueueReceipt first_len enqueue.Done t (Enqueued position segment) = (position ≡ t.enqueued) × (segment * first_len ≤ position)
-IsEnqueueReceipt first_len enqueue.Full t receipt = IsLook t receipt
-IsEnqueueReceipt first_len _ t _ = ⊥
-
--- a dequeue and a peek tell how many items were taken before
-abbrev pub IsDequeueReceipt : DequeueReply → Tally → Receipt → Type 0
-IsDequeueReceipt (dequeue.Item item) t (Dequeued position) = position ≡ t.taken
-IsDequeueReceipt dequeue.Empty t receipt = IsLook t receipt
-IsDequeueReceipt _ t _ = ⊥
-
-abbrev pub IsPeekReceipt : DequeueReply → Tally → Receipt → Type 0
-IsPeekReceipt (dequeue.Item item) t (Peeked position) = position ≡ t.taken
-IsPeekReceipt dequeue.Empty t receipt = IsLook t receipt
-IsPeekReceipt _ t _ = ⊥

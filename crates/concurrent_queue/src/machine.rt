@@ -1,11 +1,12 @@
 // The queue as a plain list.
 ghost use Rattle.std.specs.Prelude.{◌≡◌, ◌+◌, ◌^◌, ◌<◌, ◌≤◌, [], ◌∷◌, Some, IfOk, map};
-ghost use Rattle.ho_base.specs.Marks.{number_of};
+ghost use Rattle.ho_base.specs.Marks.{number_of, number_priority};
 ghost use Rattle.ho_model.specs.Queue as queue;
 ghost use Rattle.ho_model.specs.Tallies.{tally_next};
 ghost use Rattle.ho_model.specs.declared.marks.CallMark.TheVariants as callmark;
 ghost use Rattle.concurrent_queue.specs.Calls.{call_mark, reply_mark, fits};
-ghost use Rattle.concurrent_queue.specs.Kept.{IsQueueOf, state_of, may_want, queue_object, no_priority};
+ghost use Rattle.ho_model.specs.declared.objects.Object.TheVariants as object;
+ghost use Rattle.concurrent_queue.specs.Kept.{IsQueueOf, state_of, may_want};
 
 use crate::calls::{QueueCall, QueueReply};
 use ho_base::{NoMemory, Unpaid};
@@ -14,14 +15,19 @@ use item_lists::ItemRing;
 use std::alloc::{AllocError, Global};
 use std::marker::Model;
 
+/// The shortest first segment.
+const LEAST_FIRST: u32 = 2;
+
 /// A first-in first-out queue of numbers within one thread, with room for so many items, after
-/// .NET's `ConcurrentQueue<T>`. Contracts see the room, the items, how many entries it has made, and
-/// how many items were enqueued and taken.
+/// .NET's `ConcurrentQueue<T>`. Contracts see the room, the length of a first segment, which is a
+/// name of its object and changes no answer, the items, how many entries it has made, and how many
+/// items were enqueued and taken.
 ///
 /// It serves 64 callers, and takes the memory of its room when it is made.
 #[derive(Drop)]
 pub struct QueueMachine {
     ring: ItemRing<u64>,
+    first_len: u32,
     tally: Tally,
     steps: u64,
     alloc: Global,
@@ -34,6 +40,7 @@ impl Model for QueueMachine {
 
     ghost view = { λ q. record {
       room = q.ring.capacity;
+      first_len = q.first_len;
       items = q.ring.items;
       tally = q.tally;
       steps = q.steps;
@@ -43,13 +50,26 @@ impl Model for QueueMachine {
 }
 
 impl QueueMachine {
-    /// A queue without items, with room for so many.
+    /// A queue without items, with room for so many, whose object has the least length of a first
+    /// segment.
     pub fn new(alloc: Global, room: u32) -> Result<QueueMachine, NoMemory>
-        ensures { IfOk result (λ q. IsQueueOf room q []) }
+        ensures { IfOk result (λ q. IsQueueOf room 2 q []) }
+    {
+        QueueMachine::with_first_length(alloc, room, LEAST_FIRST)
+    }
+
+    /// A queue without items, with room for so many, whose object has this length of a first segment.
+    pub fn with_first_length(
+        alloc: Global,
+        room: u32,
+        first_len: u32,
+    ) -> Result<QueueMachine, NoMemory>
+        ensures { IfOk result (λ q. IsQueueOf room first_len q []) }
     {
         let ring = ItemRing::with_capacity(alloc, room)?;
         Ok(QueueMachine {
             ring,
+            first_len,
             tally: Tally {
                 enqueued: 0,
                 taken: 0,
@@ -72,7 +92,7 @@ impl Machine for QueueMachine {
 
     type Reply = QueueReply;
 
-    ghost object = { λ q. queue_object q.room };
+    ghost object = { λ q. object.Queue q.room q.first_len };
 
     ghost callers = { λ q. 64 };
 
@@ -82,7 +102,7 @@ impl Machine for QueueMachine {
 
     ghost tally = { λ q. q.tally };
 
-    ghost priority = { no_priority };
+    ghost priority = { number_priority };
 
     ghost call_mark = { call_mark };
 

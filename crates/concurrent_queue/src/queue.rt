@@ -1,12 +1,12 @@
 // The queue that callers share.
-ghost use Rattle.std.specs.Prelude.{◌≡◌, ◌<◌, ◌≤◌, ◌++◌, ◌∷◌, [], ◌↔◌, ℕ, IfOk, Err, IsTrue};
+ghost use Rattle.std.specs.Prelude.{◌≡◌, ◌<◌, ◌≤◌, ◌∷◌, [], ◌↔◌, IfOk, Err, IsTrue};
 ghost use Rattle.ho_base.specs.declared.receipts.Receipt.TheVariants.{Enqueued, Looked};
 ghost use Rattle.concurrent_queue.specs.Queues.{IsFirstLength};
 
 use crate::calls::{QueueCall, QueueReply};
 use crate::pass::QueuePass;
 use crate::telling::TellingQueue;
-use ho_base::Receipt;
+use ho_base::{Receipt, Unpaid};
 use ho_model::Tally;
 use std::alloc::Global;
 use std::marker::Model;
@@ -23,12 +23,14 @@ pub enum QueueRefused {
     /// The segments for so much room and so many callers have too many slots. A queue behind a turn
     /// has none, and is never refused so.
     TooLarge,
+    /// There was not the memory for its room.
     NoMemory,
 }
 
 /// What an enqueue comes to.
 #[derive(Clone, Copy, Debug, PartialEq, Eq)]
 pub enum EnqueueReply {
+    /// The item stands last.
     Done,
     /// There are as many items as there is room for.
     Full,
@@ -37,6 +39,7 @@ pub enum EnqueueReply {
 /// What a dequeue or a peek comes to.
 #[derive(Clone, Copy, Debug, PartialEq, Eq)]
 pub enum DequeueReply {
+    /// The first item.
     Item(u64),
     /// There is no item.
     Empty,
@@ -51,6 +54,10 @@ const LONGEST_FIRST: u32 = 1_024;
 /// A first-in first-out queue of numbers that up to 64 callers share, with room for so many items,
 /// after .NET's `ConcurrentQueue<T>`. Contracts see its identity, its room and the length of a first
 /// segment.
+///
+/// A call waits for the others that call, and for nothing else: never for room, nor for an item. It asks
+/// that its pass has no window open, as no pass has yet. As the queue is built, a caller whose count is
+/// 2^48 waits for good: no contract speaks of that.
 #[derive(Drop)]
 pub struct ConcurrentQueue {
     shared: Shared<TellingQueue>,
@@ -70,15 +77,15 @@ impl ConcurrentQueue {
     ghost use Rattle.ho_model.specs.Entries.{entry};
     ghost use Rattle.ho_model.specs.declared.marks.CallMark.TheVariants as callmark;
     ghost use Rattle.ho_model.specs.declared.marks.ReplyMark.TheVariants.{Counted};
-    ghost use Rattle.passes.specs.Numbers.{IsSpare, AreApart, held_count, held_both, give, only};
-    ghost use Rattle.passes.specs.Seen.{SeesOthers, IsLawful, longer};
-    ghost use Rattle.concurrent_queue.specs.Kept.{no_priority};
-    ghost use Rattle.concurrent_queue.specs.Passes.{IsSamePass, Answers};
-    ghost use Rattle.concurrent_queue.specs.Queues.{IsBadRoom, IsFirstLength, IsOf, first_pass, enqueue_mark, dequeue_mark, IsLook, IsEnqueueReceipt, IsDequeueReceipt, IsPeekReceipt};
-    ghost use Rattle.concurrent_queue.specs.declared.queue.QueueRefused.TheVariants.{BadRoom, BadLength};
+    ghost use Rattle.passes.specs.Numbers.{held_count};
+    ghost use Rattle.concurrent_queue.specs.Passes.{Answers, SplitsQueue, JoinsQueue};
+    ghost use Rattle.concurrent_queue.specs.Queues.{IsBadRoom, IsFirstLength, IsOf, first_of, enqueue_mark, dequeue_mark};
+    ghost use Rattle.concurrent_queue.specs.Telling.{Told};
+    ghost use Rattle.concurrent_queue.specs.declared.queue.QueueRefused.TheVariants.{BadRoom, BadLength, TooLarge};
 
     /// A queue without items for 1 to 64 callers, with room for 1 to 65,536 items, and the first
-    /// pass, which holds all numbers. It takes all its memory here.
+    /// pass, which holds all numbers. It takes all its memory here. A bad room is refused before a bad
+    /// length.
     pub fn new(
         alloc: Global,
         room: u32,
@@ -87,9 +94,10 @@ impl ConcurrentQueue {
     ) -> Result<(ConcurrentQueue, QueuePass), QueueRefused>
         requires callers { (0 < callers) × (callers ≤ 64) }
         ensures made { IfOk result (λ made. (made.0.room ≡ room) × (made.0.first_len ≡ first_len)
-            × (made.1 ≡ first_pass made.0 callers)) }
+            × (made.1 ≡ first_of made.0 callers)) }
         ensures bad_room { (result ≡ Err BadRoom) ↔ IsBadRoom room }
         ensures bad_length { (result ≡ Err BadLength) ↔ ((¬ IsBadRoom room) × (¬ IsFirstLength first_len)) }
+        ensures too_large { ¬ (result ≡ Err TooLarge) }
     {
         if room == 0 || room > MOST_ROOM {
             return Err(QueueRefused::BadRoom);
@@ -118,11 +126,8 @@ impl ConcurrentQueue {
     /// The new pass holds that number alone. Takes no memory.
     pub fn split(&self, pass: &mut QueuePass) -> QueuePass
         requires of { IsOf self.now pass.old }
-        requires spare { 1 < held_count pass.old.held }
-        ensures kept { pass.new ≡ record pass.old { held = give pass.old.held result.caller } }
-        ensures given { result ≡ record pass.old { caller = result.caller; held = only result.caller } }
-        ensures spare { IsSpare pass.old.held pass.old.caller result.caller }
-        ensures least { (c : ℕ) → c < result.caller → ¬ IsSpare pass.old.held pass.old.caller c }
+        requires spare { 1 < held_count pass.old.pass.held }
+        ensures { SplitsQueue pass.old pass.new result }
     {
         QueuePass {
             pass: self.shared.split(&mut pass.pass),
@@ -135,14 +140,7 @@ impl ConcurrentQueue {
     /// with entries of callers other than that pass's own. Takes no memory.
     pub fn join(&self, pass: &mut QueuePass, other: QueuePass)
         requires of { IsOf self.now pass.old × IsOf self.now other }
-        ensures joined { pass.new ≡ record pass.old {
-          held = held_both pass.old.held other.held;
-          seen = longer pass.old.seen other.seen;
-        } }
-        ensures apart { AreApart pass.old.held other.held }
-        ensures first { SeesOthers pass.old.held pass.old.seen pass.new.seen }
-        ensures second { SeesOthers other.held other.seen pass.new.seen }
-        ensures lawful { IsLawful no_priority pass.new.object pass.new.callers pass.new.seen }
+        ensures { JoinsQueue pass.old other pass.new }
     {
         let QueuePass { pass: other } = other;
         self.shared.join(&mut pass.pass, other)
@@ -156,6 +154,8 @@ impl ConcurrentQueue {
     }
 
     /// Puts an item last, if there is room (`Enqueue`). Takes no memory.
+    ///
+    /// The receipt is `Enqueued`, with the count of items enqueued before; of a full queue `Looked`.
     pub fn enqueue<R: Wait>(
         &self,
         rt: &R,
@@ -163,14 +163,10 @@ impl ConcurrentQueue {
         value: u64,
     ) -> (EnqueueReply, Receipt)
         requires { IsOf self.now pass.old }
-        ensures pass { IsSamePass pass.old pass.new }
-        ensures entry { Answers (IsEnqueueReceipt self.now.first_len result.0) pass.old
-            (entry pass.old.caller (callmark.Enq (value ∷ [])) (enqueue_mark result.0)) result.1 pass.new }
+        ensures { Answers self.now.first_len pass.old
+            (entry pass.old.pass.caller (callmark.Enq (value ∷ [])) (enqueue_mark result.0)) result.1 pass.new }
     {
-        match self
-            .shared
-            .call(rt, &mut pass.pass, QueueCall::Enqueue(value))
-        {
+        match self.call(rt, pass, QueueCall::Enqueue(value)) {
             Ok(((QueueReply::Done, tally), _)) => (EnqueueReply::Done, enqueued(tally)),
             Ok(((QueueReply::Full, tally), _)) => (EnqueueReply::Full, looked(tally)),
             _ => unreachable!(),
@@ -178,13 +174,14 @@ impl ConcurrentQueue {
     }
 
     /// Takes the first item, if there is one (`TryDequeue`). Takes no memory.
+    ///
+    /// The receipt is `Dequeued`, with the count of items taken before; of an empty queue `Looked`.
     pub fn dequeue<R: Wait>(&self, rt: &R, pass: &mut QueuePass) -> (DequeueReply, Receipt)
         requires { IsOf self.now pass.old }
-        ensures pass { IsSamePass pass.old pass.new }
-        ensures entry { Answers (IsDequeueReceipt result.0) pass.old
-            (entry pass.old.caller callmark.Deq (dequeue_mark result.0)) result.1 pass.new }
+        ensures { Answers self.now.first_len pass.old
+            (entry pass.old.pass.caller callmark.Deq (dequeue_mark result.0)) result.1 pass.new }
     {
-        match self.shared.call(rt, &mut pass.pass, QueueCall::Dequeue) {
+        match self.call(rt, pass, QueueCall::Dequeue) {
             Ok(((QueueReply::Item(item), tally), _)) => {
                 (
                     DequeueReply::Item(item),
@@ -199,13 +196,14 @@ impl ConcurrentQueue {
     }
 
     /// Shows the first item, if there is one (`TryPeek`). Takes no memory.
+    ///
+    /// The receipt is `Peeked`, with the count of items taken before; of an empty queue `Looked`.
     pub fn peek<R: Wait>(&self, rt: &R, pass: &mut QueuePass) -> (DequeueReply, Receipt)
         requires { IsOf self.now pass.old }
-        ensures pass { IsSamePass pass.old pass.new }
-        ensures entry { Answers (IsPeekReceipt result.0) pass.old
-            (entry pass.old.caller callmark.Peek (dequeue_mark result.0)) result.1 pass.new }
+        ensures { Answers self.now.first_len pass.old
+            (entry pass.old.pass.caller callmark.Peek (dequeue_mark result.0)) result.1 pass.new }
     {
-        match self.shared.call(rt, &mut pass.pass, QueueCall::Peek) {
+        match self.call(rt, pass, QueueCall::Peek) {
             Ok(((QueueReply::Item(item), tally), _)) => {
                 (
                     DequeueReply::Item(item),
@@ -219,17 +217,29 @@ impl ConcurrentQueue {
         }
     }
 
-    /// Counts the items (`Count`). Takes no memory.
+    /// Counts the items (`Count`). Takes no memory. The receipt is `Looked`.
     pub fn count<R: Wait>(&self, rt: &R, pass: &mut QueuePass) -> (u64, Receipt)
         requires { IsOf self.now pass.old }
-        ensures pass { IsSamePass pass.old pass.new }
-        ensures entry { Answers IsLook pass.old
-            (entry pass.old.caller callmark.Count (Counted result.0)) result.1 pass.new }
+        ensures { Answers self.now.first_len pass.old
+            (entry pass.old.pass.caller callmark.Count (Counted result.0)) result.1 pass.new }
     {
-        match self.shared.call(rt, &mut pass.pass, QueueCall::Count) {
+        match self.call(rt, pass, QueueCall::Count) {
             Ok(((QueueReply::Count(count), tally), _)) => (count, looked(tally)),
             _ => unreachable!(),
         }
+    }
+
+    /// Waits for the turn, and makes the call. Only a snapshot can come back for want of memory.
+    fn call<R: Wait>(
+        &self,
+        rt: &R,
+        pass: &mut QueuePass,
+        call: QueueCall,
+    ) -> Result<((QueueReply, Tally), Receipt), Unpaid<QueueCall>>
+        requires { IsOf self.now pass.old }
+        ensures { Told pass.old call pass.new result }
+    {
+        self.shared.call(rt, &mut pass.pass, call)
     }
 }
 

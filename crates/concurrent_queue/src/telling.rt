@@ -1,7 +1,7 @@
 // The machine under the shared queue.
 ghost use Rattle.std.specs.Prelude.{◌≡◌, IfOk, []};
 ghost use Rattle.ho_model.specs.Histories.{StandsFor};
-ghost use Rattle.concurrent_queue.specs.Kept.{no_priority};
+ghost use Rattle.ho_base.specs.Marks.{number_priority};
 
 use crate::calls::{QueueCall, QueueReply};
 use crate::machine::QueueMachine;
@@ -13,33 +13,31 @@ use std::alloc::Global;
 #[derive(Drop)]
 pub struct TellingQueue {
     queue: QueueMachine,
-    first_len: u32,
 }
 
 impl TellingQueue {
     ghost use Rattle.concurrent_queue.specs.Telling.{IsEmptyQueue};
 
-    /// A queue without items, with room for so many. The length of a first segment, which changes no
-    /// answer, is a name of its object.
+    /// A queue without items, with room for so many.
     pub fn new(alloc: Global, room: u32, first_len: u32) -> Result<TellingQueue, NoMemory>
         ensures { IfOk result (λ q. IsEmptyQueue room first_len q) }
     {
-        let queue = QueueMachine::new(alloc, room)?;
-        Ok(TellingQueue { queue, first_len })
+        let queue = QueueMachine::with_first_length(alloc, room, first_len)?;
+        Ok(TellingQueue { queue })
     }
 }
 
 impl Machine for TellingQueue {
     ghost use Rattle.ho_model.specs.declared.objects.Object.TheVariants as object;
     ghost use Rattle.concurrent_queue.specs.Calls.{call_mark};
-    ghost use Rattle.concurrent_queue.specs.Kept.{state_of, may_want, no_priority};
+    ghost use Rattle.concurrent_queue.specs.Kept.{state_of, may_want};
     ghost use Rattle.concurrent_queue.specs.Telling.{told_mark, tells};
 
     type Call = QueueCall;
 
     type Reply = (QueueReply, Tally);
 
-    ghost object = { λ q. object.Queue q.queue.room q.first_len };
+    ghost object = { λ q. object.Queue q.queue.room q.queue.first_len };
 
     ghost callers = { λ q. 64 };
 
@@ -49,7 +47,7 @@ impl Machine for TellingQueue {
 
     ghost tally = { λ q. q.queue.tally };
 
-    ghost priority = { no_priority };
+    ghost priority = { number_priority };
 
     ghost call_mark = { call_mark };
 

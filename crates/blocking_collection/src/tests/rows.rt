@@ -8,6 +8,7 @@ use blocking_core::{BlockingCall, BlockingReply};
 use cancel_flag::cancel_pair;
 use ho_base::Receipt;
 use ho_model::Store;
+use std::sync::Wait;
 use std::test::Fail;
 
 #[test]
@@ -58,6 +59,14 @@ fn any_call_is_made_by_its_name(rt: HostRuntime) -> Result<(), Fail> {
     Ok(())
 }
 
+/// How many entries stand before that of a count.
+fn place_of_count<R: Wait>(rt: &R, member: &mut Member<'_, u64>) -> Option<u64> {
+    match member.call(rt, BlockingCall::Count) {
+        Ok((BlockingReply::Count(_), Receipt::Place { number })) => Some(number),
+        _ => None,
+    }
+}
+
 #[test]
 fn a_token_that_is_set_ends_a_wait_alone(rt: HostRuntime) -> Result<(), Fail> {
     let (collection, pass) = BlockingCollection::new(rt.alloc(), Store::Fifo, Some(1), 1)?;
@@ -71,8 +80,12 @@ fn a_token_that_is_set_ends_a_wait_alone(rt: HostRuntime) -> Result<(), Fail> {
             Ok(AddReply::Cancelled(2))
         )
     );
+    // an add that was done, one that found the collection full, and no more
+    assert_eq!(rt; place_of_count(&rt, &mut member), Some(2));
     assert_eq!(rt; member.take(&rt, &mut token), TakeReply::Item(1));
     assert_eq!(rt; member.take(&rt, &mut token), TakeReply::Cancelled);
+    // a take of an item, one that found none, and no more
+    assert_eq!(rt; place_of_count(&rt, &mut member), Some(5));
     member.complete_adding(&rt);
     assert_eq!(rt; member.take(&rt, &mut token), TakeReply::Ended);
     assert!(rt; matches!(member.add(&rt, 3u64, &mut token), Ok(AddReply::Closed(3))));
@@ -83,7 +96,8 @@ fn a_token_that_is_set_ends_a_wait_alone(rt: HostRuntime) -> Result<(), Fail> {
 fn calls_over_several_use_the_first_that_serves(rt: HostRuntime) -> Result<(), Fail> {
     let (a, mut pass_a) = BlockingCollection::new(rt.alloc(), Store::Fifo, Some(1), 2)?;
     let other = a.split(&mut pass_a);
-    let (b, pass_b) = BlockingCollection::new(rt.alloc(), Store::Fifo, Some(1), 1)?;
+    let (b, mut pass_b) = BlockingCollection::new(rt.alloc(), Store::Fifo, Some(1), 2)?;
+    let last = b.split(&mut pass_b);
     let mut member = Member::new(&a, pass_a);
     assert!(rt; matches!(member.try_add(&rt, 1u64), Ok(AddReply::Done)));
     let mut passes = [member.into_pass(), pass_b];
@@ -114,6 +128,20 @@ fn calls_over_several_use_the_first_that_serves(rt: HostRuntime) -> Result<(), F
     assert_eq!(rt;
         try_take_any(&rt, &collections, &mut passes),
         AnyTake::Index(1, 7)
+    );
+    assert_eq!(rt;
+        try_take_any(&rt, &collections, &mut passes),
+        AnyTake::NoneUsed
+    );
+    Member::new(&collections[1], last).complete_adding(&rt);
+    assert_eq!(rt;
+        try_take_any(&rt, &collections, &mut passes),
+        AnyTake::Ended
+    );
+    let (_source, mut token) = cancel_pair(rt.alloc())?;
+    assert_eq!(rt;
+        take_any(&rt, &collections, &mut passes, &mut token),
+        AnyTake::Ended
     );
     Ok(())
 }
@@ -161,7 +189,8 @@ fn calls_over_several_end_by_a_token_that_is_set(rt: HostRuntime) -> Result<(), 
 
 #[test]
 fn there_is_nothing_to_use_in_no_collection(rt: HostRuntime) -> Result<(), Fail> {
-    let (_source, mut token) = cancel_pair(rt.alloc())?;
+    let (mut source, mut token) = cancel_pair(rt.alloc())?;
+    source.cancel(&rt);
     let none: [BlockingCollection<u64>; 0] = [];
     let mut passes: [turn_lock::Pass; 0] = [];
     assert!(rt;

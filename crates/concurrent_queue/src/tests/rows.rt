@@ -1,12 +1,15 @@
 // The worked rows of a queue, as calls of `step`.
-ghost use Rattle.std.specs.Prelude.{◌≡◌, ◌+◌, ◌^◌, ◌<◌, ◌≤◌};
+ghost use Rattle.std.specs.Prelude.{◌≡◌, ◌+◌, ◌^◌, ◌<◌, ◌≤◌, IfOk};
+ghost use Rattle.ho_model.specs.declared.objects.Object.TheVariants as object;
 
 use crate::{
     ConcurrentQueue, DequeueReply, EnqueueReply, QueueCall, QueueMachine, QueueRefused, QueueReply,
 };
 use ho_base::Receipt;
 use ho_model::Machine;
+use std::alloc::Global;
 use std::test::Fail;
+use turn_lock::{Pass, Shared};
 
 type Call = QueueCall;
 
@@ -66,8 +69,39 @@ fn a_queue_without_room_is_full(rt: HostRuntime) -> Result<(), Fail> {
 
 #[test]
 fn the_largest_queue_is_made(rt: HostRuntime) -> Result<(), Fail> {
-    let mut queue = QueueMachine::new(rt.alloc(), 65_536)?;
+    let mut queue = QueueMachine::with_first_length(rt.alloc(), 65_536, 1_024)?;
     assert!(rt; answers(&mut queue, Call::Enqueue(1), ("done", 0)));
+    Ok(())
+}
+
+/// A machine behind a turn, whose pass is of the object with these parameters.
+fn shared_machine(
+    alloc: Global,
+    room: u32,
+    first_len: u32,
+) -> Result<(Shared<QueueMachine>, Pass), Fail>
+    ensures table { IfOk result (λ made. made.1.table ≡ made.0) }
+    ensures object { IfOk result (λ made. made.1.object ≡ object.Queue room first_len) }
+{
+    let machine = QueueMachine::with_first_length(alloc, room, first_len)?;
+    match Shared::new(alloc, machine, 2) {
+        Ok(made) => Ok(made),
+        Err(_) => Err(Fail::new("no queue")),
+    }
+}
+
+#[test]
+fn a_shared_machine_makes_snapshots(rt: HostRuntime) -> Result<(), Fail> {
+    let (queue, mut pass) = shared_machine(rt.alloc(), 4, 8)?;
+    assert!(rt;
+        matches!(
+            queue.call(&rt, &mut pass, Call::Enqueue(7)),
+            Ok((Reply::Done, Receipt::Place { number: 0 }))
+        )
+    );
+    assert!(rt;
+        matches!(queue.call(&rt, &mut pass, Call::Snap), Ok((Reply::Numbers(items), _)) if items.as_slice() == [7].as_slice())
+    );
     Ok(())
 }
 

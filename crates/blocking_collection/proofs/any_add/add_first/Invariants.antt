@@ -1,5 +1,5 @@
 use Rattle.std.proofs.Common.{◌≡◌, []}
-use Rattle.blocking_collection.specs.Anys.{AllDid, round, full}
+use Rattle.blocking_collection.specs.Several.{AllDid, round, full}
 use Rattle.blocking_collection.proofs.any_add.add_first.Given as goal
 
 abbrev pub invariant-loop-i : goal.invariant-loop-i

@@ -1,7 +1,7 @@
 use Rattle.std.proofs.Common.{rules, ◌<◌, ◌+◌, length, [], ◌∷◌, subst, sym, arith, get_or, set, Bool}
 use Rattle.ho_model.specs.declared.marks.ReplyMark.TheVariants.{Item}
-use Rattle.blocking_collection.specs.Deeds.{Did, taken}
-use Rattle.blocking_collection.specs.Anys.{no_item}
+use Rattle.blocking_collection.specs.Own.{Did, taken}
+use Rattle.blocking_collection.specs.Several.{no_item}
 use Rattle.blocking_collection.proofs.Doing.{did_step}
 use Rattle.blocking_collection.proofs.Places.{round_at}
 use Rattle.blocking_collection.proofs.Trying.{Taking, taking_start, taking_empty, taking_ended, taken_all, taken_none}
@@ -19,7 +19,7 @@ returns-in-Item-clause-tried g c =
     let lt : c.loop-i.i < length c.args.passes.now = omega (arith, c.loop-i-test.true, c.requires.size) in
     let t = c.loop-i.invariant in
     let last = taken (Item (g.T.Item.mark c.in-Item.item)) ∷ [] in
-    let did : Did pr (get_or c.loop-i.passes c.loop-i.i c.index-passes-i.result) last c.one_take.new.pass = did_step pr _ _ _ c.one_take.ensures.pass c.in-Item.ensures.entry in
+    let did : Did pr (get_or c.loop-i.passes c.loop-i.i c.index-passes-i.result) last c.try_take.new.pass = did_step pr _ _ _ _ c.try_take.ensures.pass c.in-Item.ensures.taken in
     (t.0, lt, round_at pr _ _ _ c.index-passes-i.result _ (λ j. no_item j (t.0 j)) last t.1 lt did)
 
 pub loop-i-preserved : goal.loop-i-preserved
@@ -27,12 +27,12 @@ loop-i-preserved g c =
     let pr = g.T.Item.priority_of in
     let lt : c.loop-i.i < length c.args.passes.now = omega (arith, c.loop-i-test.true, c.requires.size) in
     let old = c.args.passes.now in
-    let new = set c.loop-i.passes c.loop-i.i c.one_take.new.pass in
-    elim c.match-one_take.branch [
+    let new = set c.loop-i.passes c.loop-i.i c.try_take.new.pass in
+    elim c.match-try_take.branch [
       | in-Empty w ↦ subst (λ (b : Bool). Taking pr old (c.loop-i.i + 1) b new) (sym w.all_ended-is)
-          (taking_empty pr old c.loop-i.passes c.loop-i.i c.index-passes-i.result c.one_take.new.pass c.loop-i.all_ended c.loop-i.invariant lt (did_step pr _ _ _ c.one_take.ensures.pass w.in-Empty.ensures.entry))
+          (taking_empty pr old c.loop-i.passes c.loop-i.i c.index-passes-i.result c.try_take.new.pass c.loop-i.all_ended c.loop-i.invariant lt (did_step pr _ _ _ _ c.try_take.ensures.pass w.in-Empty.ensures.taken))
       | in-Ended w ↦ subst (λ (b : Bool). Taking pr old (c.loop-i.i + 1) b new) (sym w.all_ended-is)
-          (taking_ended pr old c.loop-i.passes c.loop-i.i c.index-passes-i.result c.one_take.new.pass c.loop-i.all_ended c.loop-i.invariant lt (did_step pr _ _ _ c.one_take.ensures.pass w.in-Ended.ensures.entry))
+          (taking_ended pr old c.loop-i.passes c.loop-i.i c.index-passes-i.result c.try_take.new.pass c.loop-i.all_ended c.loop-i.invariant lt (did_step pr _ _ _ _ c.try_take.ensures.pass w.in-Ended.ensures.taken))
     ]
 
 pub returns-then-all_ended-clause-tried : goal.returns-then-all_ended-clause-tried

@@ -1,11 +1,11 @@
 use Rattle.std.proofs.Common.{◌≡◌}
-use Rattle.blocking_collection.specs.Deeds.{DidOrRests}
+use Rattle.blocking_collection.specs.Own.{DidOrRests}
 use Rattle.blocking_collection.specs.Tries.{Tries}
 use Rattle.blocking_collection.specs.Waits.{full_add}
-use Rattle.blocking_collection.proofs.waits.add_on.Given as goal
+use Rattle.blocking_collection.proofs.waits.add.Given as goal
 
 abbrev pub invariant-loop : goal.invariant-loop
 invariant-loop g l =
     (goal.iterator-loop g).can_next l.iterator' × (goal.iterator-loop g).is_finite l.iterator'
     × (l.given ≡ l.fn.item) × (l.pass.table ≡ l.fn.pass.table) × (l.token.word ≡ l.fn.token.word)
-    × Tries (full_add (g.T.Item.mark l.fn.item)) (λ before. DidOrRests g.T.Item.priority_of l.fn.pass before l.pass) l.fn.token.looks l.token.looks l.token.seen
+    × Tries (full_add (g.T.Item.mark l.fn.item)) (λ before. DidOrRests g.T.Item.priority_of l.fn.pass before l.pass) l.fn.token l.token
