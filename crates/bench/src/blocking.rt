@@ -4,16 +4,14 @@ ghost use Rattle.std.specs.Prelude.{◌≡◌, ◌<◌, ◌≤◌, All, IfOk};
 use crate::Trouble;
 use crate::hand_over::{Job, Outcome, Task, longest, tasks_of};
 use crate::line::StartLine;
-use blocking_collection::{AddReply, BlockingCollection, Member, TakeReply};
+use blocking_collection::{AddReply, BlockingCollection, Member, Pass, Store, TakeReply};
 use cancel_flag::{CancelToken, cancel_pair};
-use ho_model::Store;
 use std::alloc::Global;
 use std::sync::Wait;
 use std::sync::atomic::{AtomicU64, Ordering};
 use std::thread;
 use std::thread::Threads;
 use std::time::Clock;
-use turn_lock::Pass;
 
 /// Adds the numbers, and ends adding as the last adder.
 fn add_all<R: Wait>(

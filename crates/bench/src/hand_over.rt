@@ -3,9 +3,7 @@ ghost use Rattle.std.specs.Prelude.{◌≡◌, ◌<◌, ◌≤◌, All, IfOk};
 
 use crate::Trouble;
 use crate::line::{StartLine, nanoseconds_since};
-use channels::{Channel, ReadReply, Reader, WriteReply, Writer};
-use ho_base::NoMemory;
-use ho_model::Mode;
+use channels::{Channel, Mode, NoMemory, Pass, ReadReply, Reader, WriteReply, Writer};
 use pauses::Pause;
 use std::alloc::Global;
 use std::sync::Wait;
@@ -13,7 +11,6 @@ use std::sync::atomic::{AtomicU64, Ordering};
 use std::thread;
 use std::thread::Threads;
 use std::time::{Clock, Instant};
-use turn_lock::Pass;
 
 /// What one thread does.
 #[derive(Drop)]

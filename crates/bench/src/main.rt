@@ -10,13 +10,15 @@ ghost use Rattle.std.specs.Prelude.{◌<◌, ◌≤◌, IfSome};
 mod bag;
 mod blocking;
 mod hand_over;
+mod idle;
+mod lag;
 mod line;
 mod pairs;
 mod solo;
 mod steal;
 mod waits;
 
-use ho_base::NoMemory;
+use channels::NoMemory;
 use std::alloc::{AllocFailed, Global};
 use std::io::Print;
 use std::process::ExitCode;
@@ -71,8 +73,10 @@ fn print_usage(rt: &impl Print) -> io::Result<()> {
     println!(rt; "pairs: P threads enqueue a number and dequeue one, N times in all")?;
     println!(rt; "bag: P threads add four items to a bag and take four, N items in all")?;
     println!(rt; "steal: one adder puts N items into a bag, and C takers steal them")?;
+    println!(rt; "lag50, lag90, lag99: one writer writes an item every 2 ms to C idle readers")?;
+    println!(rt; "idle: C readers wait on an empty channel for N nanoseconds")?;
     println!(rt;
-        "P and C are 1 to 31, N is 1 to 1000000000; C is 0 for pairs and bag, P is 1 for steal"
+        "P and C are 1 to 31, N is 1 to 1000000000; C is 0 for pairs and bag, P is 1 for steal, lag and idle"
     )?;
     Ok(())
 }
@@ -116,6 +120,10 @@ fn measured<R: Wait + Threads + Sync + Clock>(
         ("chan", _) => hand_over::nanoseconds(rt, alloc, writers, readers, count),
         ("wait", _) => waits::nanoseconds(rt, alloc, writers, readers, count),
         ("block", _) => blocking::nanoseconds(rt, alloc, writers, readers, count),
+        ("lag50", _) => return Some(lag::nanoseconds(rt, alloc, readers, count, 50)),
+        ("lag90", _) => return Some(lag::nanoseconds(rt, alloc, readers, count, 90)),
+        ("lag99", _) => return Some(lag::nanoseconds(rt, alloc, readers, count, 99)),
+        ("idle", _) => idle::wait(rt, alloc, readers, count),
         ("solo", _) => solo::nanoseconds(rt, alloc, count),
         ("steal", _) if writers == 1 => steal::nanoseconds(rt, alloc, readers, count),
         _ => return None,

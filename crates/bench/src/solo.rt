@@ -3,13 +3,10 @@ ghost use Rattle.std.specs.Prelude.{◌≡◌};
 
 use crate::Trouble;
 use crate::line::nanoseconds_since;
-use channel_core::{ChannelCall, ChannelReply};
-use channels::Channel;
-use ho_model::Mode;
+use channels::{Channel, ChannelCall, ChannelReply, Mode, Pass};
 use std::alloc::Global;
 use std::sync::Wait;
 use std::time::{Clock, Instant};
-use turn_lock::Pass;
 
 /// Writes a number and reads it.
 fn write_and_read<R: Wait>(rt: &R, channel: &Channel<u64>, pass: &mut Pass, number: u64) -> bool

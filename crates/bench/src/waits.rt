@@ -6,15 +6,13 @@ use crate::hand_over::{Job, Outcome, Task, jobs_of, longest, tasks_of};
 use crate::line::StartLine;
 use cancel_flag::{CancelToken, cancel_pair};
 use channel_wait::{ReadEnd, WriteEnd, read, write};
-use channels::{Channel, Reader, Writer};
-use ho_model::Mode;
+use channels::{Channel, Mode, Pass, Reader, Writer};
 use std::alloc::Global;
 use std::sync::Wait;
 use std::sync::atomic::{AtomicU64, Ordering};
 use std::thread;
 use std::thread::Threads;
 use std::time::Clock;
-use turn_lock::Pass;
 
 /// Writes the numbers, and completes the channel as the last writer.
 fn write_all<R: Wait>(
