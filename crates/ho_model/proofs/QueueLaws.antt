@@ -1,14 +1,15 @@
 -- The laws of queues, as they are stated.
-use Rattle.std.proofs.Common.{◌≡◌, ℕ, ◌+◌, List, [], ◌∷◌, ◌++◌, length, slice_get, Some, sym, ap, ◌∙◌, subst, append_assoc, arith}
-use Rattle.ho_base.specs.Marks.{Mark}
+use Rattle.std.proofs.Common.{◌≡◌, ℕ, ◌+◌, List, [], ◌∷◌, ◌++◌, length, map, slice_get, Some, sym, ap, ◌∙◌, subst, append_assoc, arith}
+use Rattle.std.proofs.lemmas.List.{length-map}
+use Rattle.ho_base.specs.Marks.{Mark, number_of}
 use Rattle.ho_model.specs.declared.objects.Object.TheVariants.{Queue}
-use Rattle.ho_model.specs.Entries.{EntryMark, entry, Enq, Deq, Peek, Count, Done, Full, Item, Counted}
+use Rattle.ho_model.specs.Entries.{EntryMark, entry, CallMark, Enq, Deq, Peek, Count, Snap, Done, Full, Item, Empty, Counted, Numbers}
 use Rattle.ho_model.specs.Objects.{QueueState}
 use Rattle.ho_model.specs.Tallies.{tally_of}
 use Rattle.ho_model.specs.Enqueues.{values_of}
 use Rattle.ho_model.specs.Histories.{IsLegal}
 use Rattle.ho_model.specs.QueueReplies.{items_left}
-use Rattle.ho_model.specs.QueueLaws.{QueuesLeaveItems, QueuesCount, QueuesBalance, QueuesReply, EntriesReply, LegalByReplies, EnqueueNext, FullNext, TakeNext, PeekNext, EmptyNext, PeekEmptyNext, CountNext, SnapNext, EnqueuesFindItems, TakesFindItems, PeeksFindItems, CountsFindHeads, FullsFindHeads}
+use Rattle.ho_model.specs.QueueLaws.{QueuesLeaveItems, QueuesCount, QueuesBalance, QueuesReply, EntriesReply, LegalByReplies, EnqueueNext, FullNext, TakeNext, PeekNext, EmptyNext, PeekEmptyNext, CountNext, SnapNext, EnqueuesFindItems, TakesFindItems, PeeksFindItems, CountsFindHeads, FullsFindHeads, EmptiesFindHeads, SnapsFindHeads}
 use Rattle.ho_model.proofs.Folds.{legal_begins}
 use Rattle.ho_model.proofs.Enqueues.{value_put, value_stays}
 use Rattle.ho_model.proofs.Queues as queues
@@ -97,4 +98,23 @@ counts_find_heads priority room first_len before later c count head tail l is =
 pub fulls_find_heads : FullsFindHeads
 fulls_find_heads priority room first_len before later c head tail item l is =
     let at = entries_reply priority room first_len before (entry c (Enq item) Full) later l in
+    let a = is.0 in let b = is.1 in omega arith
+
+pub empties_find_heads : EmptiesFindHeads
+empties_find_heads priority room first_len before later c head tail Deq l is =
+    let at = entries_reply priority room first_len before (entry c Deq Empty) later l in
+    let a = is.0 in let b = is.1 in omega arith
+empties_find_heads priority room first_len before later c head tail Peek l is =
+    let at = entries_reply priority room first_len before (entry c Peek Empty) later l in
+    let a = is.0 in let b = is.1 in omega arith
+empties_find_heads priority room first_len before later c head tail (Enq item) l is = absurd (entries_reply priority room first_len before (entry c (Enq item) Empty) later l)
+empties_find_heads priority room first_len before later c head tail call l is = absurd (entries_reply priority room first_len before (entry c call Empty) later l)
+
+pub snaps_find_heads : SnapsFindHeads
+snaps_find_heads priority room first_len before later c head tail numbers l is =
+    let e = entry c Snap (Numbers numbers) in
+    let at : numbers ≡ map number_of (items_left before) = entries_reply priority room first_len before e later l in
+    let counts = legal_counts priority room first_len before (legal_begins priority (Queue room first_len) before (e ∷ later) l) in
+    let left : length (items_left before) + (tally_of before).taken ≡ (tally_of before).enqueued = left_count room (values_of before) (tally_of before) counts in
+    let many : length numbers ≡ length (items_left before) = ap (λ (ns : List ℕ). length ns) at ∙ length-map (items_left before) number_of in
     let a = is.0 in let b = is.1 in omega arith

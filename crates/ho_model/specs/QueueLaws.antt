@@ -102,3 +102,15 @@ abbrev pub FullsFindHeads : Type 0
 FullsFindHeads =
     (priority : Mark → ℕ) (room first_len : ℕ) (before later : List EntryMark) (c head tail : ℕ) (item : Mark) → IsLegal priority (Queue room first_len) (before ++ entry c (Enq item) Full ∷ later) →
     IsQueueReceipt first_len (Enq item) Full (tally_of before) (Looked head tail) → tail ≡ head + room
+
+-- that of a take or of a peek that found nothing has the two equal, and that of a snapshot tells how many
+-- items it shows
+abbrev pub EmptiesFindHeads : Type 0
+EmptiesFindHeads =
+    (priority : Mark → ℕ) (room first_len : ℕ) (before later : List EntryMark) (c head tail : ℕ) (call : CallMark) → IsLegal priority (Queue room first_len) (before ++ entry c call Empty ∷ later) →
+    IsQueueReceipt first_len call Empty (tally_of before) (Looked head tail) → tail ≡ head
+
+abbrev pub SnapsFindHeads : Type 0
+SnapsFindHeads =
+    (priority : Mark → ℕ) (room first_len : ℕ) (before later : List EntryMark) (c head tail : ℕ) (numbers : List ℕ) → IsLegal priority (Queue room first_len) (before ++ entry c Snap (Numbers numbers) ∷ later) →
+    IsQueueReceipt first_len Snap (Numbers numbers) (tally_of before) (Looked head tail) → tail ≡ head + length numbers

@@ -1,5 +1,5 @@
 // The laws of the objects. The functions have no code; their contracts are proved of the definitions.
-ghost use Rattle.ho_model.specs.QueueLaws.{QueuesLeaveItems, QueuesCount, QueuesBalance, QueuesReply, EntriesReply, LegalByReplies, EnqueueNext, FullNext, TakeNext, PeekNext, EmptyNext, PeekEmptyNext, CountNext, SnapNext, EnqueuesFindItems, TakesFindItems, PeeksFindItems, CountsFindHeads, FullsFindHeads};
+ghost use Rattle.ho_model.specs.QueueLaws.{QueuesLeaveItems, QueuesCount, QueuesBalance, QueuesReply, EntriesReply, LegalByReplies, EnqueueNext, FullNext, TakeNext, PeekNext, EmptyNext, PeekEmptyNext, CountNext, SnapNext, EnqueuesFindItems, TakesFindItems, PeeksFindItems, CountsFindHeads, FullsFindHeads, EmptiesFindHeads, SnapsFindHeads};
 ghost use Rattle.ho_model.specs.WrittenLaws.{CallsAreTold, RepliesAreTold, EntriesAreTold, HistoriesAreTold};
 
 /// After any legal history a queue has the items that were enqueued, in their order, without as many
@@ -42,13 +42,16 @@ pub fn a_queue_goes_on_by_its_counts()
 ///
 /// So the item at the position of an enqueue, among all items that a longer history enqueues, is its
 /// own; and the item at the position of a take or of a peek is the one that it gave. The head and the
-/// tail of a count differ by the count, and those of an enqueue that found the queue full by its room.
+/// tail of a count differ by the count, those of an enqueue that found the queue full by its room, those
+/// of a snapshot by the items that it shows, and those of a take or a peek that found nothing not at all.
 pub fn a_receipt_finds_its_item()
     ensures enqueues { EnqueuesFindItems }
     ensures takes { TakesFindItems }
     ensures peeks { PeeksFindItems }
     ensures counts { CountsFindHeads }
     ensures fulls { FullsFindHeads }
+    ensures empties { EmptiesFindHeads }
+    ensures snaps { SnapsFindHeads }
 {}
 
 /// What scripts and histories write is told by its mark, by which contracts see it: two calls with one

@@ -7,10 +7,10 @@ use Rattle.passes.specs.Numbers.{HasNumber, held_count, only, give, held_both}
 use Rattle.passes.specs.Seen.{AreBelow, SeesOwn, IsLawful}
 use Rattle.passes.specs.Views.{PassView}
 use Rattle.passes.specs.Calls.{IsSamePass, AddsOne, AddsNoEntry, AddsOwn}
-use Rattle.passes.specs.Laws.{JoinsKeepPlaces, WholePassesMissNothing, EntriesOfWholePasses, AFirstPassHoldsAll, SplitsGiveOne, JoinsTakeAll, AllNumbersMakeAWhole}
+use Rattle.passes.specs.Laws.{JoinsKeepPlaces, WholePassesMissNothing, EntriesOfWholePasses, WholePassesAddTheirOwn, AFirstPassHoldsAll, SplitsGiveOne, JoinsTakeAll, AllNumbersMakeAWhole}
 use Rattle.passes.proofs.Flags.{down_held, only_one, both_up, held_count-give, held_count-only, held_count-first, held_count-both, whole_by_count, by_flag}
-use Rattle.passes.proofs.Seen.{below_front, whole_sees}
-use Rattle.passes.proofs.Owned.{entry_own, others_own, own_on}
+use Rattle.passes.proofs.Seen.{below_front, below_drop, whole_sees}
+use Rattle.passes.proofs.Owned.{own_of-whole, entry_own, others_own, own_on}
 use Rattle.passes.proofs.Places.{begins_others}
 use Rattle.passes.proofs.Starts.{first_below}
 
@@ -63,6 +63,12 @@ module _ (O : Type 0) where
       let below = below_front p.callers before (e ∷ []) (subst (AreBelow p.callers) s.1 a.lawful.1) in
       let all : before ≡ p.seen = whole_sees p.callers p.held p.seen before whole below s.0 in
       (all, s.1 ∙ ap (λ (l : List EntryMark). l ++ e ∷ []) all)
+
+  pub whole_adds : WholePassesAddTheirOwn O
+  whole_adds priority p own q whole a =
+      let s = a.seen in
+      let below = below_drop p.callers p.seen s.0 (subst (AreBelow p.callers) s.1 a.lawful.1) in
+      s.1 ∙ ap (λ (l : List EntryMark). p.seen ++ l) (sym (own_of-whole p.callers p.held s.0 whole below) ∙ s.2)
 
   -- 3. Numbers that go out and come home
   pub splits_give : SplitsGiveOne O

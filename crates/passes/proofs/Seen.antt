@@ -1,5 +1,6 @@
 -- Entries of others, and what a pass has seen of a history.
 use Rattle.std.proofs.Common.{◌≡◌, ◌≢◌, ℕ, ◌<◌, ◌≤◌, List, [], ◌∷◌, ◌++◌, length, get_or, Bool, true, false, sym, refl, ap, ◌∙◌, subst, arith, cond, true≢false, replicate, append_assoc, append-nil}
+use Rattle.std.specs.Prelude.{nat_le}
 use mathlib.Core.Logic.{dite}
 use native.Mathlib.Decide.{ℕ_discrete}
 use Rattle.ho_base.specs.Marks.{Mark}
@@ -8,7 +9,7 @@ use Rattle.ho_model.specs.declared.marks.EntryMark.{EntryMark}
 use Rattle.ho_model.specs.Histories.{IsLegal}
 use Rattle.ho_model.proofs.Folds.{legal_begins}
 use Rattle.passes.specs.Numbers.{HasNumber, HasAll, only, give, held_both}
-use Rattle.passes.specs.Seen.{AreOthers, AreBelow, SeesOthers, IsLawful}
+use Rattle.passes.specs.Seen.{AreOthers, AreBelow, SeesOthers, IsLawful, longer}
 use Rattle.passes.proofs.Flags.{flag_down, flag_else, flag_none, held_both_at}
 
 abbrev tail_of : {A : Type 0} → List A → List A
@@ -65,7 +66,7 @@ pub below_front : (n : ℕ) (xs ys : List EntryMark) → AreBelow n (xs ++ ys) �
 below_front n [] ys b = tt
 below_front n (x ∷ xs) ys b = (b.0, below_front n xs ys b.1)
 
-below_drop : (n : ℕ) (xs ys : List EntryMark) → AreBelow n (xs ++ ys) → AreBelow n ys
+pub below_drop : (n : ℕ) (xs ys : List EntryMark) → AreBelow n (xs ++ ys) → AreBelow n ys
 below_drop n [] ys b = b
 below_drop n (x ∷ xs) ys b = below_drop n xs ys b.1
 
@@ -88,6 +89,14 @@ begins_longer (x ∷ xs) rest [] more e le = absurd (omega arith)
 begins_longer (x ∷ xs) rest (y ∷ ys) more e le =
     let h = begins_longer xs rest ys more (ap tail_of e) (omega arith) in
     (h.0, (λ i. head_or x (sym e i) ∷ h.1 i), h.2)
+
+-- if neither of two lists is longer than n, the longer is not
+longer_by : (n : ℕ) (b : Bool) (xs ys : List EntryMark) → length xs ≤ n → length ys ≤ n → length (cond b ys xs) ≤ n
+longer_by n true xs ys short short' = short'
+longer_by n false xs ys short short' = short
+
+pub longer_fits : (n : ℕ) (xs ys : List EntryMark) → length xs ≤ n → length ys ≤ n → length (longer xs ys) ≤ n
+longer_fits n xs ys = longer_by n (nat_le (length xs) (length ys)) xs ys
 
 -- whoever holds all numbers has seen all
 no_others : (n : ℕ) (held : List Bool) (es : List EntryMark) → HasAll n held → AreBelow n es → AreOthers held es → es ≡ []

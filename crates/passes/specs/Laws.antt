@@ -8,7 +8,7 @@ use Rattle.passes.specs.Numbers.{HoldsBelow, held_count, first_held}
 use Rattle.passes.specs.Seen.{SeesOthers, SeesEntry, SeesOwn}
 use Rattle.passes.specs.Places.{Begins, StandsBy}
 use Rattle.passes.specs.Views.{PassView, IsWhole}
-use Rattle.passes.specs.Calls.{AddsEntry, AddsNoEntry, Splits, Joins}
+use Rattle.passes.specs.Calls.{AddsEntry, AddsNoEntry, AddsOwn, Splits, Joins}
 
 -- an answered call's entry stands where its receipt says
 abbrev pub EntriesStandByReceipts : Type 0
@@ -47,6 +47,11 @@ module _ (O : Type 0) where
   abbrev pub EntriesOfWholePasses : Type 0
   EntriesOfWholePasses = (priority : Mark → ℕ) (p : PassView O) (before : List EntryMark) (e : EntryMark) (q : PassView O)
       → IsWhole p → AddsEntry priority p before e q → (before ≡ p.seen) × (q.seen ≡ p.seen ++ e ∷ [])
+
+  -- so all that comes while it makes its calls is its own entries
+  abbrev pub WholePassesAddTheirOwn : Type 0
+  WholePassesAddTheirOwn = (priority : Mark → ℕ) (p : PassView O) (own : List EntryMark) (q : PassView O)
+      → IsWhole p → AddsOwn priority p own q → q.seen ≡ p.seen ++ own
 
   -- a split gives one number away, and a join adds the numbers of both
   abbrev pub SplitsGiveOne : Type 0

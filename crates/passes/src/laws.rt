@@ -1,6 +1,6 @@
 // Laws of what passes see. The functions have no code; their contracts are proved of the
 // definitions.
-ghost use Rattle.passes.specs.Laws.{EntriesStandByReceipts, EntriesKeepPlaces, SeenGoesOn, EntryGoesOn, OwnGoesOn, JoinsKeepPlaces, WholePassesMissNothing, EntriesOfWholePasses, AFirstPassHoldsAll, SplitsGiveOne, JoinsTakeAll, AllNumbersMakeAWhole};
+ghost use Rattle.passes.specs.Laws.{EntriesStandByReceipts, EntriesKeepPlaces, SeenGoesOn, EntryGoesOn, OwnGoesOn, JoinsKeepPlaces, WholePassesMissNothing, EntriesOfWholePasses, WholePassesAddTheirOwn, AFirstPassHoldsAll, SplitsGiveOne, JoinsTakeAll, AllNumbersMakeAWhole};
 
 /// The entry of an answered call stands at the place that its receipt says, in what its pass has
 /// seen then and in all that any pass sees later which has seen as much: after more calls, and
@@ -24,6 +24,12 @@ pub fn joined_passes_keep_places<O>()
 pub fn a_whole_pass_has_seen_all<O>()
     ensures refusals { WholePassesMissNothing O }
     ensures entries { EntriesOfWholePasses O }
+{}
+
+/// The calls of a pass that holds all numbers add their own entries to what it has seen, and nothing
+/// else: no entry of another comes between them.
+pub fn a_whole_pass_adds_only_its_own<O>()
+    ensures { WholePassesAddTheirOwn O }
 {}
 
 /// Passes that were split off one by one and joined again, in any order, make a whole pass: a split

@@ -24,7 +24,7 @@ mod laws;
 mod numbers;
 
 pub use laws::{
-    a_whole_pass_has_seen_all, an_entry_keeps_its_place, joined_passes_keep_places,
-    numbers_come_home,
+    a_whole_pass_adds_only_its_own, a_whole_pass_has_seen_all, an_entry_keeps_its_place,
+    joined_passes_keep_places, numbers_come_home,
 };
 pub use numbers::Numbers;
