@@ -3,19 +3,16 @@
 --
 -- They are stated over the waits and the counts of begins alone, so that every object that has both can
 -- have them.
-use Rattle.std.specs.Prelude.{ℕ, List, [], ◌∷◌, ◌++◌, Bool, true, false, not, map, ◌&&◌, ◌||◌, ◌==◌, Option, Some, None, remove, nat_le, slice_index, slice_set, is_some, if◌then◌else◌}
+use Rattle.std.specs.Prelude.{ℕ, List, [], ◌∷◌, ◌++◌, Bool, true, false, map, ◌&&◌, ◌==◌, Option, Some, None, remove}
 use Rattle.std.specs.List.{position_or_len}
-use Rattle.std.proofs.Common.{◌≡◌, refl, sym, ap₂, ◌∙◌, ◌+◌, subst, length, ◌⊎◌, inl, inr}
+use Rattle.std.proofs.Common.{◌≡◌, refl, sym, ap₂, subst, ◌⊎◌, inl, inr}
 use Rattle.ho_base.specs.Marks.{Mark}
-use Rattle.ho_model.specs.declared.objects.Mode.{Mode}
-use Rattle.ho_model.specs.declared.objects.Mode.TheVariants.{Wait}
 use Rattle.ho_model.specs.declared.marks.CallMark.{CallMark}
 use Rattle.ho_model.specs.declared.marks.ReplyMark.{ReplyMark}
-use Rattle.ho_model.specs.declared.marks.CallMark.TheVariants.{Peek, Count, Write, Read, BeginWrite, BeginRead, BeginLookWrite, BeginLookRead, Poll, Cancel, CompleteWith, Completed}
-use Rattle.ho_model.specs.declared.marks.ReplyMark.TheVariants.{Done, Refused, Item, Full, Empty, ClosedWith, Ready}
-use Rattle.ho_model.specs.Channel.{Standing, WantsItem, WantsRoom, LooksForItem, LooksForRoom, Answered, Waiter, Channel, Kind, Outcome, is_full, is_waiting, wants_item, wants_room, looks_for_item, looks_for_room, waiter_at, answer_if, answer_at, overflow, written, taken, looked_read, looked_write, drops, or_else, begin, told, told_complete, tell, completed, is_wait, poll, cancel, peeked, channel_answer}
-use Rattle.channel_laws.specs.Kinds.{AnswersRead, AnswersWrite, AnswersLook, IsInKind, is_begin}
-use Rattle.channel_laws.proofs.Places.{some_of, position_some, position_none}
+use Rattle.ho_model.specs.declared.marks.ReplyMark.TheVariants.{Done, Refused, Item, ClosedWith, Ready}
+use Rattle.ho_model.specs.Channel.{Standing, WantsItem, WantsRoom, LooksForItem, LooksForRoom, Answered, Waiter, Channel, Kind, Outcome, is_waiting, wants_item, wants_room, looks_for_item, looks_for_room, answer_if, answer_all, answer_at, told, told_complete, tell, is_wait, channel_answer}
+use Rattle.channel_laws.specs.Kinds.{AnswersRead, AnswersWrite, AnswersLook, IsInKind}
+use Rattle.channel_laws.proofs.Table.{Act, counted, begun, Fetches, Rows, HoldsRow, rows_hold}
 
 -- 1. The five
 
@@ -35,19 +32,6 @@ pub record IsTold (w v : Waiter) : Type 0 where
 
 pub told_name : (c n : ℕ) (w v : Waiter) → IsTold w v → is_wait c n v ≡ is_wait c n w
 told_name c n w v t = ap₂ (λ x y. (x == c) && (y == n)) t.caller t.number
-
--- the counts after a call, and the wait that a begin leaves
-abbrev pub counted : CallMark → ℕ → List ℕ → List ℕ
-counted call caller begins = if is_begin call then slice_set begins caller (slice_index begins caller + 1) else begins
-
-abbrev pub begun : List ℕ → ℕ → Standing → Waiter
-begun begins caller standing = record { caller = caller; number = slice_index begins caller; standing = standing }
-
--- the call fetches the answer of this wait of its caller, or gives the wait up
-abbrev pub Fetches : CallMark → ℕ → Type 0
-Fetches (Poll number) m = number ≡ m
-Fetches (Cancel number) m = number ≡ m
-Fetches _ m = ⊥
 
 -- P holds of the counts and of the waits after a call, whatever the call has done to them
 pub record Effects (begins : List ℕ) (ws : List Waiter) (caller : ℕ) (call : CallMark) (P : List ℕ → List Waiter → Type 0) : Type 0 where
@@ -104,103 +88,48 @@ told_end fault (Answered r) = inl refl
 pub told_all : (fault : ℕ) (w : Waiter) → IsTold w (tell fault w)
 told_all fault w = record { caller = refl; number = refl; standing = told_end fault w.standing }
 
--- 3. The calls of a channel
+-- 3. The rows of the table
 
-module _ (s : Channel) (caller : ℕ) (call : CallMark) (P : List ℕ → List Waiter → Type 0) (rows : Effects s.begins s.waits caller call P) where
-  -- what a try comes to has counted no begin yet
-  abbrev Tried : Option Outcome → Type 0
-  Tried None = Unit {0}
-  Tried (Some o) = (o.1.begins ≡ s.begins) × P (counted call caller s.begins) o.1.waits
+module _ (kind : Kind) (s : Channel) (caller : ℕ) (call : CallMark) (P : List ℕ → List Waiter → Type 0) (rows : Effects s.begins s.waits caller call P) where
+  abbrev pub HoldsAfter : Act → ReplyMark → List Mark → List Waiter → Option ℕ → Type 0
+  HoldsAfter a r buffer waits completion = P (counted call caller s.begins) waits
 
-  abbrev reads : Waiter → Bool
-  reads w = wants_item w.standing
+  found : P (counted call caller s.begins) (answer_all looks_for_item (Ready true) s.waits)
+  found = rows.tells (answer_if looks_for_item (Ready true)) (told_if looks_for_item (Ready true) looks_found)
 
-  abbrev writes : Waiter → Bool
-  writes w = wants_room w.standing
+  let_go : P (counted call caller s.begins) (answer_all looks_for_room (Ready true) s.waits)
+  let_go = rows.tells (answer_if looks_for_room (Ready true)) (told_if looks_for_room (Ready true) looks_freed)
 
-  overflows : (mode : Mode) (item : Mark) → Tried (overflow mode s item)
-  overflows Wait item = tt
-  overflows _ item = (refl, rows.same)
+  pub effects_of_rows : Rows kind s caller call HoldsAfter
+  effects_of_rows = record {
+    refused = λ b item fault e. rows.same;
+    served = λ b item at. rows.answers wants_item (Item item) (handed item);
+    newest = λ b item full. rows.same;
+    oldest = λ b item full. rows.same;
+    last = λ b item full. rows.same;
+    stored = λ b item none. found;
+    full = λ item. rows.same;
+    admits = λ b below at. rows.answers wants_room Done let_in;
+    frees = λ b below. let_go;
+    leaves = λ b below. rows.same;
+    ends = λ b fault empty e. rows.same;
+    ready = rows.same;
+    over = λ fault e. rows.same;
+    waits = λ st own is. rows.stands st own is;
+    again = λ fault first e. rows.same;
+    first = λ fault none. rows.tells (tell fault) (told_all fault);
+    stands = λ number. rows.same;
+    gone = λ number st own at. rows.forgets number own;
+    unknown = rows.same;
+    plain = λ r is. rows.same;
+  }
 
-  written_step : (kind : Kind) (item : Mark) (done reader full : Bool) → is_some s.completion ≡ done → some_of reads s.waits ≡ reader → is_full kind.capacity (length s.buffer) ≡ full → Tried (written kind s item)
-  written_step kind item true reader full e1 e2 e3 = simp e1 (refl, rows.same)
-  written_step kind item false true full e1 e2 e3 = let at = position_some reads s.waits e2 in simp (e1, at) (refl, rows.answers wants_item (Item item) (handed item))
-  written_step kind item false false true e1 e2 e3 = let at = position_none reads s.waits e2 in simp (e1, at, e3) (overflows kind.mode item)
-  written_step kind item false false false e1 e2 e3 =
-      let at = position_none reads s.waits e2 in
-      simp (e1, at, e3) (refl, rows.tells (answer_if looks_for_item (Ready true)) (told_if looks_for_item (Ready true) looks_found))
-
-  written_tried : (kind : Kind) (item : Mark) → Tried (written kind s item)
-  written_tried kind item = written_step kind item (is_some s.completion) (some_of reads s.waits) (is_full kind.capacity (length s.buffer)) refl refl refl
-
-  taken_step : (kind : Kind) (items writer full done : Bool) → nat_le 1 (length s.buffer) ≡ items → some_of writes s.waits ≡ writer → is_full kind.capacity (length s.buffer) ≡ full → is_some s.completion ≡ done → Tried (taken kind s)
-  taken_step kind true true full done e1 e2 e3 e4 = let at = position_some writes s.waits e2 in simp (e1, at) (refl, rows.answers wants_room Done let_in)
-  taken_step kind true false true done e1 e2 e3 e4 =
-      let at = position_none writes s.waits e2 in
-      simp (e1, at, e3) (refl, rows.tells (answer_if looks_for_room (Ready true)) (told_if looks_for_room (Ready true) looks_freed))
-  taken_step kind true false false done e1 e2 e3 e4 = let at = position_none writes s.waits e2 in simp (e1, at, e3) (refl, rows.same)
-  taken_step kind false writer full true e1 e2 e3 e4 = simp (e1, e4) (refl, rows.same)
-  taken_step kind false writer full false e1 e2 e3 e4 = simp (e1, e4) tt
-
-  taken_tried : (kind : Kind) → Tried (taken kind s)
-  taken_tried kind = taken_step kind (nat_le 1 (length s.buffer)) (some_of writes s.waits) (is_full kind.capacity (length s.buffer)) (is_some s.completion) refl refl refl refl
-
-  look_read_step : (items done : Bool) → nat_le 1 (length s.buffer) ≡ items → is_some s.completion ≡ done → Tried (looked_read s)
-  look_read_step true done e1 e2 = simp e1 (refl, rows.same)
-  look_read_step false true e1 e2 = simp (e1, e2) (refl, rows.same)
-  look_read_step false false e1 e2 = simp (e1, e2) tt
-
-  look_write_step : (kind : Kind) (done room : Bool) → is_some s.completion ≡ done → (not (is_full kind.capacity (length s.buffer)) || drops kind.mode) ≡ room → Tried (looked_write kind s)
-  look_write_step kind true room e1 e2 = simp e1 (refl, rows.same)
-  look_write_step kind false true e1 e2 = simp (e1, e2) (refl, rows.same)
-  look_write_step kind false false e1 e2 = simp (e1, e2) tt
-
-  begin_holds : (standing : Standing) (o : Option Outcome) → IsInKind call standing → is_waiting standing ≡ true → counted call caller s.begins ≡ slice_set s.begins caller (slice_index s.begins caller + 1) → Tried o → Holds P (Some (begin s caller standing o))
-  begin_holds standing None own waits e k = subst (λ b. P b (s.waits ++ begun s.begins caller standing ∷ [])) e (rows.stands standing own waits)
-  begin_holds standing (Some o) own waits e k = subst (λ b. P b o.1.waits) e k.1
-
-  -- a call that is no begin
-  module _ (e : counted call caller s.begins ≡ s.begins) where
-    or_else_holds : (o : Option Outcome) (reply : ReplyMark) → Tried o → Holds P (Some (or_else o (reply, s)))
-    or_else_holds None reply k = subst (λ b. P b s.waits) e rows.same
-    or_else_holds (Some o) reply k = subst (λ b. P b o.1.waits) (e ∙ sym k.0) k.1
-
-    plain : P s.begins s.waits
-    plain = subst (λ b. P b s.waits) e rows.same
-
-    completed_step : (fault : ℕ) (done : Bool) → is_some s.completion ≡ done → Holds P (Some (completed s fault))
-    completed_step fault true k = simp k plain
-    completed_step fault false k = simp k (subst (λ b. P b (map (tell fault) s.waits)) e (rows.tells (tell fault) (told_all fault)))
-
-    peeked_step : (kind : Kind) (items : Bool) → nat_le 1 (length s.buffer) ≡ items → Holds P (Some (peeked kind s))
-    peeked_step kind true k = simp k plain
-    peeked_step kind false k = simp k plain
-
-    module _ (m : ℕ) (fetches : Fetches call m) where
-      gone : P s.begins (remove s.waits (position_or_len (is_wait caller m) s.waits))
-      gone = subst (λ b. P b (remove s.waits (position_or_len (is_wait caller m) s.waits))) e (rows.forgets m fetches)
-
-      cancel_step : (there : Bool) → some_of (is_wait caller m) s.waits ≡ there → Holds P (Some (cancel s caller m))
-      cancel_step true k = let at = position_some (is_wait caller m) s.waits k in simp at gone
-      cancel_step false k = let at = position_none (is_wait caller m) s.waits k in simp at plain
-
-      poll_step : (there waits : Bool) → some_of (is_wait caller m) s.waits ≡ there → is_waiting (waiter_at s.waits (position_or_len (is_wait caller m) s.waits)).standing ≡ waits → Holds P (Some (poll s caller m))
-      poll_step true true k w = let at = position_some (is_wait caller m) s.waits k in simp (at, w) plain
-      poll_step true false k w = let at = position_some (is_wait caller m) s.waits k in simp (at, w) gone
-      poll_step false waits k w = let at = position_none (is_wait caller m) s.waits k in simp at plain
+  holds_at : (o : Option Outcome) → HoldsRow kind s caller call HoldsAfter o → Holds P o
+  holds_at None h = tt
+  holds_at (Some o) h = subst (λ b. P b o.1.waits) (sym h.0) h.1
 
 -- what holds of the five holds of each call
 pub effects_hold : (kind : Kind) (s : Channel) (caller : ℕ) (call : CallMark) (P : List ℕ → List Waiter → Type 0) → Effects s.begins s.waits caller call P → Holds P (channel_answer kind s caller call)
-effects_hold kind s caller (Write item) P rows = or_else_holds s caller (Write item) P rows refl (written kind s item) Full (written_tried s caller (Write item) P rows kind item)
-effects_hold kind s caller (BeginWrite item) P rows = begin_holds s caller (BeginWrite item) P rows (WantsRoom item) (written kind s item) refl refl refl (written_tried s caller (BeginWrite item) P rows kind item)
-effects_hold kind s caller Read P rows = or_else_holds s caller Read P rows refl (taken kind s) Empty (taken_tried s caller Read P rows kind)
-effects_hold kind s caller BeginRead P rows = begin_holds s caller BeginRead P rows WantsItem (taken kind s) refl refl refl (taken_tried s caller BeginRead P rows kind)
-effects_hold kind s caller BeginLookRead P rows = begin_holds s caller BeginLookRead P rows LooksForItem (looked_read s) refl refl refl (look_read_step s caller BeginLookRead P rows (nat_le 1 (length s.buffer)) (is_some s.completion) refl refl)
-effects_hold kind s caller BeginLookWrite P rows = begin_holds s caller BeginLookWrite P rows LooksForRoom (looked_write kind s) refl refl refl (look_write_step s caller BeginLookWrite P rows kind (is_some s.completion) (not (is_full kind.capacity (length s.buffer)) || drops kind.mode) refl refl)
-effects_hold kind s caller (CompleteWith fault) P rows = completed_step s caller (CompleteWith fault) P rows refl fault (is_some s.completion) refl
-effects_hold kind s caller (Poll m) P rows = poll_step s caller (Poll m) P rows refl m refl (some_of (is_wait caller m) s.waits) (is_waiting (waiter_at s.waits (position_or_len (is_wait caller m) s.waits)).standing) refl refl
-effects_hold kind s caller (Cancel m) P rows = cancel_step s caller (Cancel m) P rows refl m refl (some_of (is_wait caller m) s.waits) refl
-effects_hold kind s caller Peek P rows = peeked_step s caller Peek P rows refl kind (nat_le 1 (length s.buffer)) refl
-effects_hold kind s caller Count P rows = rows.same
-effects_hold kind s caller Completed P rows = rows.same
-effects_hold kind s caller _ P rows = tt
+effects_hold kind s caller call P rows =
+    holds_at kind s caller call P rows (channel_answer kind s caller call)
+    (rows_hold kind s caller (HoldsAfter kind s caller call P rows) call (effects_of_rows kind s caller call P rows))

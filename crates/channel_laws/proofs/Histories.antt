@@ -35,7 +35,7 @@ kind_is priority object.Bag room s e = absurd room
 kind_is priority (object.Blocking store bound) room s e = absurd room
 
 -- a channel with room is a channel
-is_channel : (o : Object) → IsChannelObject o → IsChannel o
+pub is_channel : (o : Object) → IsChannelObject o → IsChannel o
 is_channel object.Unbounded room = tt
 is_channel (object.Bounded capacity mode) room = tt
 is_channel object.Prioritized room = tt
@@ -43,7 +43,7 @@ is_channel (object.Queue room' first) room = absurd room
 is_channel object.Bag room = absurd room
 is_channel (object.Blocking store bound) room = absurd room
 
-has_room : (priority : Mark → ℕ) (o : Object) → IsChannelObject o → HasRoom (kind_in priority o).capacity
+pub has_room : (priority : Mark → ℕ) (o : Object) → IsChannelObject o → HasRoom (kind_in priority o).capacity
 has_room priority object.Unbounded room = tt
 has_room priority (object.Bounded capacity mode) room = room
 has_room priority object.Prioritized room = tt

@@ -1,5 +1,5 @@
 -- The item that a read takes by priority is the first of least priority.
-use Rattle.std.specs.Prelude.{◌≡◌, ℕ, ◌<◌, ◌≤◌, ◌+◌, List, [], ◌∷◌, Bool, true, false, Some, length, nat_le, cond}
+use Rattle.std.specs.Prelude.{◌≡◌, ℕ, ◌<◌, ◌≤◌, ◌+◌, List, [], ◌∷◌, Bool, true, false, Option, Some, None, length, nat_le, cond}
 use Rattle.std.proofs.Common.{refl, ap, ◌∙◌, zero, suc, arith, add-one}
 use Rattle.std.proofs.lemmas.Bool.{leb-true, leb-false}
 use Rattle.ho_base.specs.Marks.{Mark}
@@ -56,3 +56,8 @@ reads_take_first_least priority (x ∷ xs) h =
       least = λ k l. rw was.item (was.least k l);
       first = λ k l. rw was.item (was.first k l);
     }
+
+-- the place of a read is one of the buffer's
+pub read_below : (priority : Option (Mark → ℕ)) (buffer : List Mark) → 0 < length buffer → read_place priority buffer < length buffer
+read_below None buffer h = h
+read_below (Some priority) buffer h = (reads_take_first_least priority buffer h).below

@@ -11,7 +11,8 @@ use Rattle.channel_laws.specs.Reached.{IsNamed}
 use Rattle.channel_laws.specs.Kinds.{IsInKind, is_begin}
 use Rattle.channel_laws.proofs.Places.{remove_there, answer_there}
 use Rattle.channel_laws.proofs.Waiters.{Each, each_map, each_push, each_answer, each_drop, HasNames, names_answer, names_drop, names_map, names_count, names_stand}
-use Rattle.channel_laws.proofs.Effects.{IsAnswerTo, IsTold, counted, begun, Effects, Holds, effects_hold}
+use Rattle.channel_laws.proofs.Table.{counted, begun}
+use Rattle.channel_laws.proofs.Effects.{IsAnswerTo, IsTold, Effects, Holds, effects_hold}
 
 -- a stored answer is one that a wait can have
 abbrev pub HasAnswer : Standing → Type 0

@@ -202,9 +202,6 @@ module _ (c n : ℕ) where
     pub some_twin : (ws : List Waiter) → first_is_other p c n ws ≡ true → some_of p ws ≡ true → position p (but_for c n ws) ≡ Some (position_or_len p (but_for c n ws))
     some_twin ws h some = position_some p (but_for c n ws) (some_other ws h ∙ some)
 
-    pub none_twin : (ws : List Waiter) → some_of p ws ≡ false → position p (but_for c n ws) ≡ None
-    none_twin ws none = position_none p (but_for c n ws) (none_left ws none)
-
   -- all waits are changed, under their names
   module _ (f : Waiter → Waiter) (names : (w : Waiter) → is_wait c n (f w) ≡ is_wait c n w) where
     map_step : (w : Waiter) (ws : List Waiter) (m : Bool) → is_wait c n w ≡ m → is_wait c n (f w) ≡ m → but_for c n (map f ws) ≡ map f (but_for c n ws) → but_for c n (map f (w ∷ ws)) ≡ map f (but_for c n (w ∷ ws))

@@ -15,7 +15,8 @@ use Rattle.ho_model.specs.Channel.{Standing, WantsItem, WantsRoom, LooksForItem,
 use Rattle.channel_laws.specs.Reached.{IsSettled, IsReached}
 use Rattle.channel_laws.proofs.Places.{some_of, position_some, position_none, answer_there, remove_there}
 use Rattle.channel_laws.proofs.Effects.{told_if, looks_found, looks_freed}
-use Rattle.channel_laws.proofs.Least.{reads_take_first_least}
+use Rattle.channel_laws.proofs.Least.{read_below}
+use Rattle.channel_laws.proofs.Table.{none_from}
 use Rattle.channel_laws.proofs.Waiters.{Each, each_weaker, each_map, each_push, each_answer, each_drop, each_none, HasNames, names_answer, names_drop, names_map, names_count, names_stand}
 
 -- a buffer with a capacity has room for one item at least
@@ -32,24 +33,15 @@ pub record Good (kind : Kind) (count : ℕ) (completion : Option ℕ) (begins : 
   pub names : HasNames begins waits
   pub settled : Each (λ w. IsSettled kind count completion w.standing) waits
 
-none_from : (o : Option ℕ) → is_some o ≡ false → o ≡ None
-none_from None h = refl
-none_from (Some x) h = let f : true ≡ false = h in cc
-
-full_some : (capacity : Option ℕ) (count : ℕ) → HasRoom capacity → is_full capacity count ≡ true → 0 < count
+pub full_some : (capacity : Option ℕ) (count : ℕ) → HasRoom capacity → is_full capacity count ≡ true → 0 < count
 full_some None count room h = let f : false ≡ true = h in cc
 full_some (Some k) count room h = let l : k ≤ count = leb-true k count h in omega arith
-
--- the place of a read is one of the buffer's
-read_below : (priority : Option (Mark → ℕ)) (buffer : List Mark) → 1 ≤ length buffer → read_place priority buffer < length buffer
-read_below None buffer h = omega arith
-read_below (Some priority) buffer h = (reads_take_first_least priority buffer (omega arith)).below
 
 -- one item leaves and one comes
 moved : (priority : Option (Mark → ℕ)) (buffer : List Mark) (item : Mark) → 1 ≤ length buffer → length (remove buffer (read_place priority buffer) ++ item ∷ []) ≡ length buffer
 moved priority buffer item h =
     let place = read_place priority buffer in
-    let l = read_below priority buffer h in
+    let l = read_below priority buffer (omega arith) in
     let a = length-append (remove buffer place) (item ∷ []) in
     let b = length-append (take place buffer) (drop (suc place) buffer) in
     let c = length-take-le place buffer (omega arith) in

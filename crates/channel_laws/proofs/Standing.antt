@@ -10,7 +10,8 @@ use Rattle.ho_model.specs.Channel.{Standing, Answered, Waiter, Channel, Kind, is
 use Rattle.channel_laws.specs.Kinds.{is_waiting_reply}
 use Rattle.channel_laws.specs.Twin.{is_of_wait, is_open, is_answered}
 use Rattle.channel_laws.proofs.Places.{some_of, first_of, drop_first, answer_first, first_is_other, position_some, answer_there, remove_there, waiter_first, other_named, count_step}
-use Rattle.channel_laws.proofs.Effects.{IsAnswerTo, IsTold, told_name, Fetches, Effects, Holds, effects_hold}
+use Rattle.channel_laws.proofs.Table.{Fetches}
+use Rattle.channel_laws.proofs.Effects.{IsAnswerTo, IsTold, told_name, Effects, Holds, effects_hold}
 
 -- 1. The wait of a name among all waits
 
@@ -112,7 +113,7 @@ module _ (Q : Standing → Type 0) (c n : ℕ) where
 
 -- 2. The calls
 
-not_named : (c n caller m : ℕ) (call : CallMark) → is_of_wait c n caller call ≡ false → Fetches call m → ((caller == c) && (m == n)) ≡ false
+pub not_named : (c n caller m : ℕ) (call : CallMark) → is_of_wait c n caller call ≡ false → Fetches call m → ((caller == c) && (m == n)) ≡ false
 not_named c n caller m (Poll number) other is = subst (λ k. ((caller == c) && (k == n)) ≡ false) is other
 not_named c n caller m (Cancel number) other is = subst (λ k. ((caller == c) && (k == n)) ≡ false) is other
 not_named c n caller m _ other is = absurd is

@@ -11,8 +11,11 @@
 //! - `specs/Kinds.antt`: the answers that a begin's wait can get.
 //! - `specs/Laws.antt`: the laws.
 //!
-//! A call changes the waits in one of five ways, which `proofs/Effects.antt` tells over the waits and the
-//! counts of begins alone. What is kept by the five is kept by every call.
+//! `proofs/Table.antt` tells the table of calls as one list of rows: what holds of each row holds of every
+//! call. The same walk tells when a channel with other waits answers alike, which `proofs/Following.antt`
+//! asks of the twin. By the rows a call changes the waits in one of five ways, which `proofs/Effects.antt`
+//! tells over the waits and the counts of begins alone, so that what is kept by the five is kept by every
+//! call.
 //!
 //! The crate has no must-fail edits: its functions have no code, so that no edit of it can be refused.
 //! What guards the laws is that they are proved of the definitions as they stand.

@@ -1,0 +1,9 @@
+pub mod Sums
+pub mod Balance
+pub mod Waits
+pub mod Stock
+pub mod Answers
+pub mod Telling
+pub mod Runs
+pub mod Ending
+pub mod Laws
