@@ -2,7 +2,7 @@
 ghost use Rattle.std.specs.Prelude.{◌≡◌, ◌<◌, ◌≤◌, IfOk};
 ghost use Rattle.std.specs.Option.{ForSome};
 
-use crate::news::Ring;
+use crate::news::news_of;
 use blocking_core::{BlockingCall, BlockingReply, BlockingState};
 use ho_base::{Item, NoMemory, Receipt, Unpaid};
 use ho_model::Store;
@@ -88,7 +88,13 @@ impl<T: Item> BlockingCollection<T> {
         ensures pass { IsSamePass pass.old pass.new }
         ensures called { OneCall T.priority_of T.mark pass.old pass.new call result }
     {
-        let _ring = Ring::after(&self.bells, &call);
-        self.shared.call(rt, pass, call)
+        let news = news_of(&call);
+        self.shared.call_and_tell(rt, pass, call, &self.bells, news)
+    }
+
+    /// Wakes all callers that sleep until there is an item or room, so that each looks again at once. Who has
+    /// cancelled many of them calls it, since a caller that sleeps looks at its token only when it wakes.
+    pub fn wake_all(&self) {
+        self.bells.wake_all();
     }
 }

@@ -7,7 +7,7 @@ use crate::singles;
 use crate::singles::{AddReply, TakeReply};
 use cancel_flag::CancelToken;
 use ho_base::{Item, Unpaid};
-use pauses::Tries;
+use pauses::{Hears, News, Tries};
 use std::sync::Wait;
 use turn_lock::Pass;
 
@@ -38,7 +38,7 @@ pub(crate) fn add<T: Item, R: Wait>(
             }
             Ok(AddReply::Cancelled(_)) => unreachable!(),
             Err(unpaid) => {
-                collection.bells.tell_room();
+                collection.bells.tell(News::Room);
                 return Err(unpaid);
             }
         }

@@ -4,12 +4,12 @@ ghost use Rattle.passes.specs.Calls.{IsSamePass};
 ghost use Rattle.channels.specs.Calls.{Calls, Tries};
 
 use crate::channel::Channel;
-use crate::news::Ring;
+use crate::news::news_of;
 use crate::sides::Side;
 use crate::tries::{ChannelTry, channel_try};
 use channel_core::{ChannelCall, ChannelReply};
 use ho_base::{Item, Receipt, Unpaid};
-use pauses::Nap;
+use pauses::{Hears, Nap};
 use std::marker::Model;
 use std::sync::Wait;
 use turn_lock::Pass;
@@ -62,8 +62,10 @@ impl<'c, T: Item> Side<T> for Access<'c, T> {
         ensures called { Calls T.mark T.priority_of self.old self.new call result }
     {
         let channel = self.channel;
-        let _ring = Ring::after(&channel.bells, &call);
-        channel.shared.call(rt, &mut self.pass, call)
+        let news = news_of(&call);
+        channel
+            .shared
+            .call_and_tell(rt, &mut self.pass, call, &channel.bells, news)
     }
 
     fn try_side_call(&mut self, call: ChannelCall<T>) -> ChannelTry<T>
@@ -71,8 +73,10 @@ impl<'c, T: Item> Side<T> for Access<'c, T> {
         ensures tried { Tries T.mark T.priority_of self.old self.new call result }
     {
         let channel = self.channel;
-        let _ring = Ring::after(&channel.bells, &call);
-        channel_try(channel.shared.try_call(&mut self.pass, call))
+        let news = news_of(&call);
+        let answer = channel_try(channel.shared.try_call(&mut self.pass, call));
+        channel.bells.tell(news);
+        answer
     }
 
     fn note(&self, receipt: Receipt) {

@@ -2,12 +2,12 @@
 ghost use Rattle.std.specs.Prelude.{◌≡◌, ◌<◌, ◌≤◌, ◌↔◌, IfOk, Err};
 
 use crate::machine::ChannelMachine;
-use crate::news::Ring;
+use crate::news::news_of;
 use crate::tries::{ChannelTry, channel_try};
 use channel_core::{ChannelCall, ChannelReply, ChannelState};
 use ho_base::{Item, NoMemory, Receipt, Unpaid};
 use ho_model::Mode;
-use pauses::Bells;
+use pauses::{Bells, Hears};
 use priority_core::PriorityState;
 use std::alloc::Global;
 use std::marker::Model;
@@ -140,8 +140,8 @@ impl<T: Item> Channel<T> {
         ensures pass { IsSamePass pass.old pass.new }
         ensures called { Calls T.mark T.priority_of pass.old pass.new call result }
     {
-        let _ring = Ring::after(&self.bells, &call);
-        self.shared.call(rt, pass, call)
+        let news = news_of(&call);
+        self.shared.call_and_tell(rt, pass, call, &self.bells, news)
     }
 
     /// Tries once to get the turn, and makes any call of the channel where it came. It waits for
@@ -154,13 +154,15 @@ impl<T: Item> Channel<T> {
         ensures pass { IsSamePass pass.old pass.new }
         ensures tried { Tries T.mark T.priority_of pass.old pass.new call result }
     {
-        let _ring = Ring::after(&self.bells, &call);
-        channel_try(self.shared.try_call(pass, call))
+        let news = news_of(&call);
+        let answer = channel_try(self.shared.try_call(pass, call));
+        self.bells.tell(news);
+        answer
     }
 
     /// Wakes all callers that sleep until there is an item or room, so that each looks again at once. Who has
     /// cancelled many of them calls it, since a caller that sleeps looks at its token only when it wakes.
     pub fn wake_all(&self) {
-        self.bells.tell_all();
+        self.bells.wake_all();
     }
 }

@@ -21,19 +21,45 @@ pub enum Want {
     SeeRoom,
 }
 
+/// What an entry may bring to those who wait.
+#[derive(Clone, Copy)]
+pub enum News {
+    Item,
+    Room,
+    /// No wait has to go on.
+    End,
+    Nothing,
+}
+
+/// Whom the news of calls are told.
+pub trait Hears {
+    fn tell(&self, news: News);
+}
+
+/// Nobody, beside an object whose callers never wait for each other's entries.
+pub struct Nobody;
+
+impl Hears for Nobody {
+    fn tell(&self, _news: News) {}
+}
+
 /// The bells of an object with up to 64 callers, one for each: only that caller sleeps beside it.
 ///
 /// A caller that is about to sleep puts itself on the list of those who want the same, looks once more
 /// whether it has to wait, and sleeps until its bell has rung. Who made an entry that can end a wait
 /// rings: it takes the caller that has waited longest off the list, and rings its bell. So an item or room
 /// wakes one sleeper of those who want it for themselves, and all who wait to see it; where nobody sleeps
-/// it costs two loads.
+/// it costs one load. A caller that tries again and again, and has no wait in the object, waits anew each
+/// time that it was rung for nothing. Who could not take a caller off in 1,000 tries, since others change
+/// the list, leaves it to its time.
 ///
 /// An object that answers waits in the order in which they began hands what an entry brings to the
 /// oldest. Where that one sleeps, it is the one that has waited longest among the sleepers that have no
 /// ring yet; for older ones there was an answer each, and there is a ring each.
 #[derive(Drop)]
 pub struct Bells {
+    /// How many callers stand on the lists, or more. Each is counted before it is put on.
+    listed: AtomicU64,
     /// A bit for each caller that sleeps, or is about to, until there is an item.
     for_item: AtomicU64,
     /// The same, until there is room.
@@ -43,7 +69,7 @@ pub struct Bells {
     /// The same, until it is told that there is room.
     to_see_room: AtomicU64,
     /// No meaning: all callers read the lists, and those that wait write what follows.
-    gap: [u64; 12],
+    gap: [u64; 11],
     /// How many callers came last in line.
     last: AtomicU64,
     /// At each caller, the place of the entry that told it to wait.
@@ -55,11 +81,12 @@ pub struct Bells {
 impl Bells {
     pub fn new() -> Bells {
         Bells {
+            listed: AtomicU64::new(0),
             for_item: AtomicU64::new(0),
             for_room: AtomicU64::new(0),
             to_see_item: AtomicU64::new(0),
             to_see_room: AtomicU64::new(0),
-            gap: [0; 12],
+            gap: [0; 11],
             last: AtomicU64::new(0),
             since: array::from_fn(|_| AtomicU64::new(0)),
             rings: array::from_fn(|_| AtomicU64::new(0)),
@@ -91,36 +118,51 @@ impl Bells {
         self.note(caller, self.last.fetch_add(1, Ordering::SeqCst));
     }
 
+    /// How many callers stand on the lists, or more.
+    pub(crate) fn listed(&self) -> u64 {
+        self.listed.load(Ordering::SeqCst)
+    }
+
     /// Puts a caller on a list.
     pub(crate) fn put_on(&self, want: Want, caller: u32) {
+        self.listed.fetch_add(1, Ordering::SeqCst);
         self.list(want).fetch_or(bit_of(caller), Ordering::SeqCst);
     }
 
     /// Takes a caller off a list, and says whether it stood there.
     pub(crate) fn take_off(&self, want: Want, caller: u32) -> bool {
         let bit = bit_of(caller);
-        self.list(want).fetch_and(!bit, Ordering::SeqCst) & bit != 0
-    }
-
-    /// Tells that an item came: wakes the caller that has waited longest for one, and all that wait to
-    /// see one.
-    pub fn tell_item(&self) {
-        self.ring(Want::Item);
-        self.ring_each(Want::SeeItem);
-    }
-
-    /// Tells that there is room, likewise.
-    pub fn tell_room(&self) {
-        self.ring(Want::Room);
-        self.ring_each(Want::SeeRoom);
+        let stood = self.list(want).fetch_and(!bit, Ordering::SeqCst) & bit != 0;
+        if stood {
+            self.listed.fetch_sub(1, Ordering::SeqCst);
+        }
+        stood
     }
 
     /// Wakes all that sleep.
-    pub fn tell_all(&self) {
+    pub fn wake_all(&self) {
         self.ring_each(Want::Item);
         self.ring_each(Want::Room);
         self.ring_each(Want::SeeItem);
         self.ring_each(Want::SeeRoom);
+    }
+
+    /// Tells callers of which some stand on the lists.
+    #[cold]
+    #[inline(never)]
+    fn tell_listed(&self, news: News) {
+        match news {
+            News::Item => {
+                self.ring(Want::Item);
+                self.ring_each(Want::SeeItem);
+            }
+            News::Room => {
+                self.ring(Want::Room);
+                self.ring_each(Want::SeeRoom);
+            }
+            News::End => self.wake_all(),
+            News::Nothing => {}
+        }
     }
 
     /// Wakes the caller that has waited longest for this, if any sleeps.
@@ -137,19 +179,15 @@ impl Bells {
         }
     }
 
-    #[cold]
-    #[inline(never)]
     fn wake_each(&self, want: Want) {
         let list = self.list(want).swap(0, Ordering::SeqCst);
         for caller in 0..64u32 {
             if list >> caller & 1 == 1 {
-                self.wake(caller);
+                self.wake_listed(caller);
             }
         }
     }
 
-    #[cold]
-    #[inline(never)]
     fn wake_oldest(&self, want: Want) {
         let asleep = self.list(want);
         for _ in 0..MOST_TRIES {
@@ -160,7 +198,7 @@ impl Bells {
             let rest = list & !bit_of(caller);
             let took = asleep.compare_exchange(list, rest, Ordering::SeqCst, Ordering::SeqCst);
             if took.is_ok() {
-                self.wake(caller);
+                self.wake_listed(caller);
                 if self.since(caller) == place {
                     return;
                 }
@@ -168,7 +206,9 @@ impl Bells {
         }
     }
 
-    fn wake(&self, caller: u32) {
+    /// Wakes a caller that was taken off its list.
+    fn wake_listed(&self, caller: u32) {
+        self.listed.fetch_sub(1, Ordering::SeqCst);
         let bell = self.bell(caller);
         bell.fetch_add(1, Ordering::SeqCst);
         bell.wake_one();
@@ -189,6 +229,16 @@ impl Bells {
             }
         }
         oldest
+    }
+}
+
+impl Hears for Bells {
+    /// An item or room wakes the caller that has waited longest for one of its own, and all that wait to
+    /// see one; an end wakes all.
+    fn tell(&self, news: News) {
+        if self.listed() != 0 {
+            self.tell_listed(news);
+        }
     }
 }
 

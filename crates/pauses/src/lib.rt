@@ -10,7 +10,7 @@ mod bells;
 mod nap;
 mod pause;
 
-pub use bells::{Bells, Want};
+pub use bells::{Bells, Hears, News, Nobody, Want};
 pub use nap::{Nap, Tries};
 pub use pause::Pause;
 

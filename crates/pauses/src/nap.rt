@@ -7,12 +7,13 @@ use std::time::Duration;
 
 /// How many short sleeps a wait has before it goes to its bell. While callers wait for less than that,
 /// nobody has to wake them.
-const SHORT_SLEEPS: u32 = 2;
+const SHORT_SLEEPS: u32 = 8;
 
 /// How many microseconds the first sleep beside a bell lasts at most.
 const FIRST_SLEEP: u64 = 1_000;
 
-/// How many microseconds any does. A caller that was asked to stop sees it after that time at the latest.
+/// How many microseconds any does. A caller that was asked to stop looks for it after that time at the
+/// latest, once it has its core and, where it tries again, a turn.
 const LONGEST: u64 = 8_000;
 
 /// The pauses of one wait: spins, a few short sleeps, and then sleeps beside the caller's bell.

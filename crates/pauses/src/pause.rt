@@ -10,9 +10,9 @@ use std::time::Duration;
 const SPINS_OF_TURN: u32 = 64;
 
 /// How many spins the first pause of a call has that waits for another call.
-const SPINS_OF_CALL: u32 = 256;
+const SPINS_OF_CALL: u32 = 384;
 
-/// How many spins a pause has at most.
+/// A pause of at least so many spins is a longest one.
 const MOST_SPINS: u32 = 2_048;
 
 /// How many microseconds a thread sleeps after the longest pause.

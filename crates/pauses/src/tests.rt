@@ -35,7 +35,7 @@ fn a_caller_that_waits_long_takes_few_pauses(rt: HostRuntime) -> Result<(), Fail
         || {
             thread::sleep(&rt, Duration::from_millis(50));
             word.store(1, Ordering::SeqCst);
-            bells.tell_room();
+            bells.tell(News::Room);
         },
     );
     assert!(rt; count < FEW);
@@ -58,11 +58,27 @@ fn each_ring_wakes_one_and_the_longest_first(rt: HostRuntime) -> Result<(), Fail
         bells.bell(3).load(Ordering::SeqCst) == 0 && bells.bell(5).load(Ordering::SeqCst) == 1
     );
     assert!(rt; !bells.take_off(Want::Item, 5));
-    bells.tell_all();
+    bells.wake_all();
     assert!(rt;
         bells.bell(3).load(Ordering::SeqCst) == 1 && bells.bell(5).load(Ordering::SeqCst) == 1
     );
     assert!(rt; !bells.take_off(Want::Item, 3));
+    assert!(rt; bells.listed() == 0);
+    Ok(())
+}
+
+#[test]
+fn who_stands_on_a_list_is_counted_until_it_is_off(rt: HostRuntime) -> Result<(), Fail> {
+    let bells = Bells::new();
+    bells.put_on(Want::Item, 3);
+    bells.put_on(Want::SeeRoom, 4);
+    assert!(rt; bells.listed() == 2);
+    assert!(rt; bells.take_off(Want::Item, 3));
+    assert!(rt; !bells.take_off(Want::Item, 3));
+    assert!(rt; bells.listed() == 1);
+    bells.tell(News::Room);
+    assert!(rt; bells.listed() == 0);
+    assert!(rt; bells.bell(4).load(Ordering::SeqCst) == 1);
     Ok(())
 }
 
@@ -95,9 +111,9 @@ fn all_who_look_are_told(rt: HostRuntime) -> Result<(), Fail> {
         bells.put_on(Want::SeeItem, caller);
     }
     bells.put_on(Want::Item, 9);
-    bells.tell_room();
+    bells.tell(News::Room);
     assert!(rt; bells.bell(0).load(Ordering::SeqCst) == 0);
-    bells.tell_item();
+    bells.tell(News::Item);
     for caller in 0..4u32 {
         assert!(rt; bells.bell(caller).load(Ordering::SeqCst) == 1);
     }

@@ -48,7 +48,7 @@ module _ {S : Type 0} (pr : Mark → ℕ) (stands : Object → ℕ → S → Lis
     where
       one : (j : ℕ) (v : View) → get_elem? (first_view o n ∷ []) j ≡ some v → Knows o n 0 0 [] (replicate n 0) (λ _. 0) (λ _. 0) j v
       one zero v e = subst (Knows o n 0 0 [] (replicate n 0) (λ _. 0) (λ _. 0) 0) (some-injective _ _ e)
-          record { of_object = refl; of_callers = refl; holder = first_holder n; obstacles = All-nil (WasOut 0 0); at_turn = tt }
+          record { of_object = refl; of_callers = refl; holder = first_holder n; obstacles = All-nil (WasOut 0 0); at_turn = omega arith }
       one (suc j) v e = absurd (some-ne-none v (sym e))
 
   -- with a whole pass the machine is at home, and stands for all that the pass has seen

@@ -37,7 +37,7 @@ module _ {S : Type 0} (pr : Mark → ℕ) (stands : Object → ℕ → S → Lis
     waiting : Knows o n r.serving r.ticket r.log r.made r.owner r.server id v
     waiting = r.knows id v at
 
-    drawn_fact : (r.serving ≤ k) × (k < r.ticket) × (r.server k ≡ id) × HasNumber v.held v.caller
+    drawn_fact : (r.serving ≤ k) × (k < r.ticket) × (r.server k ≡ id) × HasNumber v.held v.caller × (length v.seen ≤ r.serving)
     drawn_fact = subst (λ (x : Turn). TurnFact r.serving r.ticket r.log r.server id v.seen (HasNumber v.held v.caller) (IsWhole v) x) turn waiting.at_turn
 
     abbrev reached_view : View
@@ -216,6 +216,9 @@ module _ {S : Type 0} (pr : Mark → ℕ) (stands : Object → ℕ → S → Lis
             absurd (not (sym (y.holder.owns m.0.caller (whole m.0.caller (subst (λ (q : ℕ). m.0.caller < q) (sym y.of_callers) z.1))).0 ∙ z.0))) u.turn y.at_turn;
       }
 
+      seen_short : length m.0.seen ≤ r.serving + 1
+      seen_short = let a = turn_fact.0 in let b = turn_fact.5 in let c = ap (λ (l : List EntryMark). length l) turn_fact.4 in omega arith
+
       left_at : Rule record { words = set s.words 16 (r.serving + 1); homes = set s.homes 0 (some x); views = set s.views id idle }
       left_at = let y = holding_at in let a = turn_fact.0 in let lt = turn_fact.1 in let short = turn_fact.5 in record {
         ticket = r.ticket;
@@ -243,7 +246,7 @@ module _ {S : Type 0} (pr : Mark → ℕ) (stands : Object → ℕ → S → Lis
               of_callers = y.of_callers;
               holder = y.holder;
               obstacles = read_later r.serving r.ticket (r.serving + 1) r.ticket m.0.met (omega arith) (le_refl r.ticket) y.obstacles;
-              at_turn = tt;
+              at_turn = seen_short;
             }
             (λ j u not z. leave_others j u not (r.knows j u z));
       }

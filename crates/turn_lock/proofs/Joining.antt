@@ -1,5 +1,5 @@
 -- A split, a join and the load after it keep the rule.
-use Rattle.std.proofs.Common.{◌≡◌, ◌≢◌, ℕ, List, [], ◌∷◌, ◌++◌, length, set, sym, refl, ◌∙◌, subst, inl, inr, ⊎_elim}
+use Rattle.std.proofs.Common.{◌≡◌, ◌≢◌, ℕ, List, [], ◌∷◌, ◌++◌, length, ◌≤◌, set, sym, refl, ◌∙◌, subst, inl, inr, ⊎_elim}
 use Rattle.std.proofs.lemmas.List.Elements.{All-nil, All-append}
 use mathlib.Core.Option.{some, none}
 use lib.ListN.{get_elem?}
@@ -12,15 +12,16 @@ use Rattle.ho_model.specs.declared.objects.Object.{Object}
 use Rattle.passes.specs.Numbers.{HasNumber, IsSpare, give}
 use Rattle.passes.specs.Holders.{split_owner, join_owner}
 use Rattle.passes.proofs.Holders.{holder_left, holder_right, holder_split, holder_gone, holder_joined, holder_both, holders_meet}
+use Rattle.passes.proofs.Seen.{longer_fits}
 use Rattle.passes.proofs.Seats.{seats_split, seats_join, some_seat, some_longer}
 use Rattle.turn_lock.specs.declared.view.View.{View}
 use Rattle.turn_lock.specs.declared.view.Turn.{Turn}
-use Rattle.turn_lock.specs.declared.view.Turn.TheVariants.{Idle}
+use Rattle.turn_lock.specs.declared.view.Turn.TheVariants.{Idle, Joined}
 use Rattle.turn_lock.specs.Views.{HasTicket, HasTurn, IsWhole, in_turn, without, alone, joined, gone}
 use Rattle.turn_lock.specs.Rule.{TurnFact, WasOut, Knows, Kept}
 use Rattle.turn_lock.specs.Plays.{told}
 use Rattle.turn_lock.proofs.TurnFacts.{idle_free, turn_ticket}
-use Rattle.turn_lock.proofs.Laws.{lawful_of, quiet}
+use Rattle.turn_lock.proofs.Laws.{lawful_of, short_of, quiet}
 
 module _ {S : Type 0} (pr : Mark → ℕ) (stands : Object → ℕ → S → List EntryMark → Type 0) (o : Object) (n : ℕ) where
   abbrev Rule : State S View → Type 0
@@ -45,7 +46,7 @@ module _ {S : Type 0} (pr : Mark → ℕ) (stands : Object → ℕ → S → Lis
       of_callers = known.of_callers;
       holder = holder_left n r.log r.made r.owner id v.held v.made v.seen known.holder c fresh;
       obstacles = known.obstacles;
-      at_turn = subst (λ (t : Turn). TurnFact r.serving r.ticket r.log r.server id v.seen (HasNumber (give v.held c) v.caller) (IsWhole (without v c)) t) (sym idle) tt;
+      at_turn = subst (λ (t : Turn). TurnFact r.serving r.ticket r.log r.server id v.seen (HasNumber (give v.held c) v.caller) (IsWhole (without v c)) t) (sym idle) (short_of pr stands o n s r id v at (idle_free v.turn idle));
     }
 
     right_known : Known' fresh (alone v c)
@@ -54,7 +55,7 @@ module _ {S : Type 0} (pr : Mark → ℕ) (stands : Object → ℕ → S → Lis
       of_callers = known.of_callers;
       holder = holder_right n r.log r.made r.owner id v.held v.made v.seen known.holder c fresh spare.0;
       obstacles = All-nil (WasOut r.serving r.ticket);
-      at_turn = tt;
+      at_turn = short_of pr stands o n s r id v at (idle_free v.turn idle);
     }
 
     else_known : (j : ℕ) (u : View) → j ≢ id → Knows o n r.serving r.ticket r.log r.made r.owner r.server j u → Known' j u
@@ -117,13 +118,16 @@ module _ {S : Type 0} (pr : Mark → ℕ) (stands : Object → ℕ → S → Lis
     abbrev both : View
     both = joined v w
 
+    both_short : length both.seen ≤ r.serving
+    both_short = longer_fits r.serving v.seen w.seen (short_of pr stands o n s r id v at (idle_free v.turn idle)) (short_of pr stands o n s r other w there (idle_free w.turn idle'))
+
     both_known : KnownJ id both
     both_known = record {
       of_object = kv.of_object;
       of_callers = kv.of_callers;
       holder = holder_both n r.log r.made r.owner id other v.held w.held v.made w.made v.seen w.seen kv.holder kw.holder;
       obstacles = All-append (WasOut r.serving r.ticket) v.met w.met kv.obstacles kw.obstacles;
-      at_turn = holders_meet n r.log r.made r.owner id other v.held w.held v.made w.made v.seen w.seen kv.holder kw.holder (λ e. apart (sym e));
+      at_turn = (holders_meet n r.log r.made r.owner id other v.held w.held v.made w.made v.seen w.seen kv.holder kw.holder (λ e. apart (sym e)), both_short);
     }
 
     gone_known : KnownJ other (gone w)
@@ -132,7 +136,7 @@ module _ {S : Type 0} (pr : Mark → ℕ) (stands : Object → ℕ → S → Lis
       of_callers = kw.of_callers;
       holder = holder_gone n r.log r.made r.owner other w.held w.made w.seen kw.holder one_owner;
       obstacles = kw.obstacles;
-      at_turn = tt;
+      at_turn = short_of pr stands o n s r other w there (idle_free w.turn idle');
     }
 
     rest_known : (j : ℕ) (u : View) → j ≢ id → j ≢ other → Knows o n r.serving r.ticket r.log r.made r.owner r.server j u → KnownJ j u
@@ -183,14 +187,14 @@ module _ {S : Type 0} (pr : Mark → ℕ) (stands : Object → ℕ → S → Lis
   pub tells : (slots id : ℕ) (m : Me S View) → ((t : ℕ) → HasTicket m.0.turn t → ⊥) → Allows Rule slots id m 16 (λ x. x) (told pr (step slots 16 0 0 none) m)
   tells slots id m free s r _ at _ =
       let k = r.knows id m.0 at in
-      let after = quiet pr stands o n s r id m.0 (in_turn m.0 Idle) at free record { of_object = k.of_object; of_callers = k.of_callers; holder = k.holder; obstacles = k.obstacles; at_turn = tt } in (
+      let after = quiet pr stands o n s r id m.0 (in_turn m.0 Idle) at free record { of_object = k.of_object; of_callers = k.of_callers; holder = k.holder; obstacles = k.obstacles; at_turn = short_of pr stands o n s r id m.0 at free } in (
         in_turn m.0 Idle,
         keeps,
         tt,
         subst (λ (ws : List ℕ). Rule record { words = ws; homes = s.homes; views = set s.views id (in_turn m.0 Idle) }) (sym (set-get_or s.words 16 0)) after,
         (
           refl,
-          (λ p q h h' is. subst (λ (x : Turn). TurnFact r.serving r.ticket r.log r.server id m.0.seen (HasNumber m.0.held m.0.caller) (IsWhole m.0) x) is k.at_turn),
+          (λ p q h h' is. let f : TurnFact r.serving r.ticket r.log r.server id m.0.seen (HasNumber m.0.held m.0.caller) (IsWhole m.0) (Joined p q h h') = subst (λ (x : Turn). TurnFact r.serving r.ticket r.log r.server id m.0.seen (HasNumber m.0.held m.0.caller) (IsWhole m.0) x) is k.at_turn in f.0),
           lawful_of pr stands o n s r id m.0 at,
         ),
       )

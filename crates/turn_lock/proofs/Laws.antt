@@ -18,7 +18,7 @@ use Rattle.passes.proofs.Seats.{seats_stay, some_seat, one_view}
 use Rattle.turn_lock.specs.declared.view.View.{View}
 use Rattle.turn_lock.specs.Views.{HasTicket, HasTurn, IsWhole}
 use Rattle.turn_lock.specs.Rule.{Knows, Kept, spaced}
-use Rattle.turn_lock.proofs.TurnFacts.{has_ticket, turn_ticket}
+use Rattle.turn_lock.proofs.TurnFacts.{has_ticket, turn_short, turn_ticket}
 
 pub mod-lt-is : (a b : ℕ) → a < b → a % b ≡ a
 mod-lt-is a b h = mod-eq_of_lt h
@@ -48,6 +48,10 @@ module _ {S : Type 0} (pr : Mark → ℕ) (stands : Object → ℕ → S → Lis
   -- what a seat with a ticket knows
   pub ticket_of : (s : St) (r : Rule s) (j t : ℕ) (v : View) → get_elem? s.views j ≡ some v → HasTicket v.turn t → (r.serving ≤ t) × (t < r.ticket) × (r.server t ≡ j) × HasNumber v.held v.caller
   ticket_of s r j t v at h = has_ticket r.serving r.ticket r.log r.server j v.seen (HasNumber v.held v.caller) (IsWhole v) v.turn t h (r.knows j v at).at_turn
+
+  -- a seat without a ticket has seen no more entries than turns are over
+  pub short_of : (s : St) (r : Rule s) (j : ℕ) (v : View) → get_elem? s.views j ≡ some v → ((t : ℕ) → HasTicket v.turn t → ⊥) → length v.seen ≤ r.serving
+  short_of s r j v at free = turn_short r.serving r.ticket r.log r.server j v.seen (HasNumber v.held v.caller) (IsWhole v) v.turn free (r.knows j v at).at_turn
 
   -- a seat that holds all numbers and has no ticket finds nobody before it
   pub whole_finds : (s : St) (r : Rule s) (me : ℕ) (v : View) → get_elem? s.views me ≡ some v → ((t : ℕ) → HasTicket v.turn t → ⊥) → IsWhole v → r.serving ≡ r.ticket

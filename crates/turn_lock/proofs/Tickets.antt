@@ -26,7 +26,7 @@ use Rattle.turn_lock.specs.Rule.{TurnFact, WasOut, Knows, Kept}
 use Rattle.std.specs.List.{sum}
 use Rattle.turn_lock.specs.Plays.{Got, looked, tried, grabbed, drew}
 use Rattle.turn_lock.proofs.TurnFacts.{idle_free, looked_free, turn_ticket, turn_stays, read_later}
-use Rattle.turn_lock.proofs.Laws.{mod-lt-is, word_at, few_tickets, lawful_of, ticket_of, whole_finds, quiet}
+use Rattle.turn_lock.proofs.Laws.{mod-lt-is, word_at, few_tickets, lawful_of, short_of, ticket_of, whole_finds, quiet}
 
 module _ {S : Type 0} (pr : Mark → ℕ) (stands : Object → ℕ → S → List EntryMark → Type 0) (o : Object) (n : ℕ) where
   abbrev Rule : State S View → Type 0
@@ -36,7 +36,7 @@ module _ {S : Type 0} (pr : Mark → ℕ) (stands : Object → ℕ → S → Lis
   looks_at s r id m idle at =
       let k = r.knows id m.0 at in
       quiet pr stands o n s r id m.0 (in_turn m.0 (Looked r.serving)) at (idle_free m.0.turn idle)
-      record { of_object = k.of_object; of_callers = k.of_callers; holder = k.holder; obstacles = k.obstacles; at_turn = (le_refl r.serving, λ whole. refl) }
+      record { of_object = k.of_object; of_callers = k.of_callers; holder = k.holder; obstacles = k.obstacles; at_turn = (le_refl r.serving, (λ whole. refl), short_of pr stands o n s r id m.0 at (idle_free m.0.turn idle)) }
 
   pub looks : (slots id : ℕ) (m : Me S View) → m.0.turn ≡ Idle → Allows Rule slots id m 16 (λ x. x) (looked (step slots 16 0 0 none) m)
   looks slots id m idle s r _ at _ =
@@ -134,14 +134,14 @@ module _ {S : Type 0} (pr : Mark → ℕ) (stands : Object → ℕ → S → Lis
               of_callers = known_at.of_callers;
               holder = holder_counts n r.log r.made r.owner id v.held v.made v.seen known_at.holder v.caller inside_made low_caller active;
               obstacles = obstacles' is;
-              at_turn = (omega arith, omega arith, server_here k refl, active);
+              at_turn = (omega arith, omega arith, server_here k refl, active, short_of pr stands o n s r id v at free);
             }
             (λ j u not e. other_knows j u not is (r.knows j u e));
       }
 
     -- ticket try: it is the ticket that is served, and with it comes the turn
     module _ (turn : m.0.turn ≡ Looked k) where
-      look_fact : (k ≤ r.serving) × (IsWhole v → k ≡ r.serving)
+      look_fact : (k ≤ r.serving) × (IsWhole v → k ≡ r.serving) × (length v.seen ≤ k)
       look_fact = subst (λ (x : Turn). TurnFact r.serving r.ticket r.log r.server id v.seen (HasNumber v.held v.caller) (IsWhole v) x) turn known_at.at_turn
 
       home_is : r.ticket ≡ k → (x : S) × (r.home ≡ some x) × stands o n x r.log × (length r.log ≤ r.serving)
@@ -208,7 +208,7 @@ module _ {S : Type 0} (pr : Mark → ℕ) (stands : Object → ℕ → S → Lis
 
       miss_known : (w : View) → w ≡ record v { met = w.met; turn = Idle } → All (WasOut r.serving r.ticket) w.met → Knows o n r.serving r.ticket r.log r.made r.owner r.server id w
       miss_known w same read = subst (Knows o n r.serving r.ticket r.log r.made r.owner r.server id) (sym same)
-          record { of_object = known_at.of_object; of_callers = known_at.of_callers; holder = known_at.holder; obstacles = read; at_turn = tt }
+          record { of_object = known_at.of_object; of_callers = known_at.of_callers; holder = known_at.holder; obstacles = read; at_turn = short_of pr stands o n s r id v at (looked_free v.turn k turn) }
 
       miss_kept : (w : View) → w ≡ record v { met = w.met; turn = Idle } → All (WasOut r.serving r.ticket) w.met → Rule record { words = set s.words 0 r.ticket; homes = s.homes; views = set s.views id w }
       miss_kept w same read =
@@ -228,6 +228,7 @@ module _ {S : Type 0} (pr : Mark → ℕ) (stands : Object → ℕ → S → Lis
           (λ _. (
             refl,
             omega arith,
+            look_fact.2,
             (λ whole. ne (sym (whole_finds pr stands o n s r id v at (looked_free v.turn k turn) whole) ∙ sym (look_fact.1 whole))),
             lawful_of pr stands o n s r id v at,
           )),

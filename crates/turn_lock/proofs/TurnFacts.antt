@@ -1,5 +1,5 @@
 -- What the rule says of a seat's turn and of the obstacles that it met, and how another seat's step leaves it.
-use Rattle.std.proofs.Common.{◌≡◌, ◌≢◌, ℕ, ◌+◌, ◌<◌, ◌≤◌, List, length, sym, ap, ◌∙◌, subst, arith}
+use Rattle.std.proofs.Common.{◌≡◌, ◌≢◌, ℕ, ◌+◌, ◌<◌, ◌≤◌, List, length, refl, sym, ap, ◌∙◌, subst, arith}
 use Rattle.std.specs.Prelude.{All}
 use Rattle.std.proofs.lemmas.List.Elements.{All-weaker}
 use Rattle.ho_model.specs.declared.marks.EntryMark.{EntryMark}
@@ -64,7 +64,7 @@ module _ (serving ticket : ℕ) (log : List EntryMark) (server : ℕ → ℕ) (s
   pub has_ticket : (x : Turn) (t : ℕ) → HasTicket x t → TurnFact serving ticket log server seat seen active whole x → (serving ≤ t) × (t < ticket) × (server t ≡ seat) × active
   has_ticket Idle t h f = absurd h
   has_ticket (Looked r) t h f = absurd h
-  has_ticket (Drawn k) t h f = subst (λ (z : ℕ). (serving ≤ z) × (z < ticket) × (server z ≡ seat) × active) h f
+  has_ticket (Drawn k) t h f = subst (λ (z : ℕ). (serving ≤ z) × (z < ticket) × (server z ≡ seat) × active) h (f.0, f.1, f.2, f.3)
   has_ticket (Holds k) t h f = let a : k ≡ serving = f.0 in subst (λ (z : ℕ). (serving ≤ z) × (z < ticket) × (server z ≡ seat) × active) h (omega arith, f.1, f.2, f.3)
   has_ticket (Entered k) t h f = let a : k ≡ serving = f.0 in subst (λ (z : ℕ). (serving ≤ z) × (z < ticket) × (server z ≡ seat) × active) h (omega arith, f.1, f.2, f.3)
   has_ticket (Joined p q h h') t g f = absurd g
@@ -78,12 +78,21 @@ module _ (serving ticket : ℕ) (log : List EntryMark) (server : ℕ → ℕ) (s
   has_turn (Entered k) t h f = let a : k ≡ t = h in let b : k ≡ serving = f.0 in let c : k < ticket = f.1 in let d : length log ≤ k + 1 = f.5 in (omega arith, omega arith, ap server (sym a) ∙ f.2, f.3, f.4, omega arith)
   has_turn (Joined p q h' h'') t h f = absurd h
 
+  -- a seat without a ticket has seen no more entries than turns are over
+  pub turn_short : (x : Turn) → ((t : ℕ) → HasTicket x t → ⊥) → TurnFact serving ticket log server seat seen active whole x → length seen ≤ serving
+  turn_short Idle free f = f
+  turn_short (Looked r) free f = let a : r ≤ serving = f.0 in let b : length seen ≤ r = f.2 in omega arith
+  turn_short (Drawn k) free f = f.4
+  turn_short (Holds k) free f = absurd (free k refl)
+  turn_short (Entered k) free f = absurd (free k refl)
+  turn_short (Joined p q h h') free f = f.1
+
   -- another seat drew a ticket
   pub turn_stays : (ticket' : ℕ) (server' : ℕ → ℕ) → ticket ≤ ticket' → ((t : ℕ) → t < ticket → server t ≡ seat → server' t ≡ seat) → (x : Turn)
       → TurnFact serving ticket log server seat seen active whole x → TurnFact serving ticket' log server' seat seen active whole x
-  turn_stays ticket' server' le same Idle f = tt
+  turn_stays ticket' server' le same Idle f = f
   turn_stays ticket' server' le same (Looked r) f = f
-  turn_stays ticket' server' le same (Drawn k) f = let a : k < ticket = f.1 in (f.0, omega arith, same k f.1 f.2, f.3)
+  turn_stays ticket' server' le same (Drawn k) f = let a : k < ticket = f.1 in (f.0, omega arith, same k f.1 f.2, f.3, f.4)
   turn_stays ticket' server' le same (Holds k) f = let a : k < ticket = f.1 in (f.0, omega arith, same k f.1 f.2, f.3, f.4, f.5)
   turn_stays ticket' server' le same (Entered k) f = let a : k < ticket = f.1 in (f.0, omega arith, same k f.1 f.2, f.3, f.4, f.5)
   turn_stays ticket' server' le same (Joined p q h h') f = f
@@ -91,9 +100,9 @@ module _ (serving ticket : ℕ) (log : List EntryMark) (server : ℕ → ℕ) (s
   -- another seat, which has the turn, made its entry, or gave the turn back
   pub turn_passes : (log' : List EntryMark) (serving' : ℕ) → server serving ≢ seat → serving ≤ serving' → serving' ≤ serving + 1 → (whole → serving' ≡ serving) → (x : Turn)
       → TurnFact serving ticket log server seat seen active whole x → TurnFact serving' ticket log' server seat seen active whole x
-  turn_passes log' serving' not lo hi still Idle f = tt
-  turn_passes log' serving' not lo hi still (Looked r) f = let a : r ≤ serving = f.0 in (omega arith, λ w. f.1 w ∙ sym (still w))
-  turn_passes log' serving' not lo hi still (Drawn k) f = let a : serving ≤ k = f.0 in let ne : k ≢ serving = λ e. not (ap server (sym e) ∙ f.2) in (omega arith, f.1, f.2, f.3)
+  turn_passes log' serving' not lo hi still Idle f = let a : length seen ≤ serving = f in omega arith
+  turn_passes log' serving' not lo hi still (Looked r) f = let a : r ≤ serving = f.0 in (omega arith, (λ w. f.1 w ∙ sym (still w)), f.2)
+  turn_passes log' serving' not lo hi still (Drawn k) f = let a : serving ≤ k = f.0 in let ne : k ≢ serving = λ e. not (ap server (sym e) ∙ f.2) in let b : length seen ≤ serving = f.4 in (omega arith, f.1, f.2, f.3, omega arith)
   turn_passes log' serving' not lo hi still (Holds k) f = absurd (not (ap server (sym f.0) ∙ f.2))
   turn_passes log' serving' not lo hi still (Entered k) f = absurd (not (ap server (sym f.0) ∙ f.2))
-  turn_passes log' serving' not lo hi still (Joined p q h h') f = f
+  turn_passes log' serving' not lo hi still (Joined p q h h') f = let a : length seen ≤ serving = f.1 in (f.0, omega arith)

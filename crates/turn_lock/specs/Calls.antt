@@ -1,5 +1,5 @@
 -- What a call on a shared machine, and one try of it, leave of the pass: p before, and q after.
-use Rattle.std.specs.Prelude.{◌≡◌, ℕ, ◌<◌, ◌≤◌, ◌^◌, ◌++◌, List, [], ◌∷◌, slice_index, sum, All, Bool, true, Result, Ok, Err}
+use Rattle.std.specs.Prelude.{◌≡◌, ℕ, ◌<◌, ◌≤◌, ◌^◌, ◌++◌, List, [], ◌∷◌, length, slice_index, sum, All, Bool, true, Result, Ok, Err}
 use Rattle.ho_base.specs.Marks.{Mark}
 use Rattle.ho_base.specs.declared.memory.Unpaid.{Unpaid}
 use Rattle.ho_base.specs.declared.receipts.Receipt.{Receipt}
@@ -26,6 +26,8 @@ pub record MeetsObstacle (p q : LockPass) : Type 0 where
   pub serving : ℕ
   pub ticket : ℕ
   pub above : serving < ticket
+  -- at least as many turns were over then as the pass had seen entries
+  pub later : length p.seen ≤ serving
   pub met : q.met ≡ p.met ++ record { serving = serving; ticket = ticket } ∷ []
   pub uncounted : q.made ≡ p.made
   pub others : ¬ IsWhole p

@@ -1,5 +1,5 @@
 -- What each step tells: of the step, the seat before, the number found and the seat after.
-use Rattle.std.specs.Prelude.{◌≡◌, ◌≢◌, ℕ, ◌<◌, ◌^◌, Bool, List, ◌∷◌, length}
+use Rattle.std.specs.Prelude.{◌≡◌, ◌≢◌, ℕ, ◌<◌, ◌≤◌, ◌^◌, Bool, List, ◌∷◌, length}
 use Rattle.atomic_table.specs.Table.{Me, Step, rest}
 use Rattle.ho_base.specs.Marks.{Mark}
 use Rattle.ho_model.specs.declared.marks.EntryMark.{EntryMark}
@@ -24,7 +24,7 @@ module _ {S : Type 0} where
     -- the exchange of the ticket word from the number that was read as served: a ticket try
     abbrev pub tried : Step S → Me S View → ℕ → Me S View → Type 0
     tried st m r w = (r ≡ st.first → Got (counted m.0) m.1 r w)
-        × (r ≢ st.first → (w ≡ (met m.0 st.first r, m.1)) × (st.first < r) × (¬ IsWhole m.0) × IsLawful pr m.0.object m.0.callers m.0.seen)
+        × (r ≢ st.first → (w ≡ (met m.0 st.first r, m.1)) × (st.first < r) × (length m.0.seen ≤ st.first) × (¬ IsWhole m.0) × IsLawful pr m.0.object m.0.callers m.0.seen)
 
     -- the same in a call that goes on trying, where a miss leaves no trace
     abbrev pub grabbed : Step S → Me S View → ℕ → Me S View → Type 0

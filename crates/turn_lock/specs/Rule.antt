@@ -25,15 +25,16 @@ abbrev pub spaced : ℕ → ℕ → ℕ → List ℕ
 spaced ticket serving count = ticket ∷ gap (serving ∷ count ∷ [])
 
 -- What the rule says of a seat's turn. `server` names the seat that has a ticket; `active` says that
--- the seat holds the number of its own caller, and `whole` that it holds all.
+-- the seat holds the number of its own caller, and `whole` that it holds all. A seat without the turn
+-- has seen no more entries than turns are over.
 module _ (serving ticket : ℕ) (log : List EntryMark) (server : ℕ → ℕ) (seat : ℕ) (seen : List EntryMark) (active whole : Type 0) where
   abbrev pub TurnFact : Turn → Type 0
-  TurnFact Idle = Unit {0}
-  TurnFact (Looked r) = (r ≤ serving) × (whole → r ≡ serving)
-  TurnFact (Drawn k) = (serving ≤ k) × (k < ticket) × (server k ≡ seat) × active
+  TurnFact Idle = length seen ≤ serving
+  TurnFact (Looked r) = (r ≤ serving) × (whole → r ≡ serving) × (length seen ≤ r)
+  TurnFact (Drawn k) = (serving ≤ k) × (k < ticket) × (server k ≡ seat) × active × (length seen ≤ serving)
   TurnFact (Holds k) = (k ≡ serving) × (k < ticket) × (server k ≡ seat) × active × (seen ≡ log) × (length log ≤ k)
   TurnFact (Entered k) = (k ≡ serving) × (k < ticket) × (server k ≡ seat) × active × (seen ≡ log) × (length log ≤ k + 1)
-  TurnFact (Joined first second held held') = Meet held held' first second seen
+  TurnFact (Joined first second held held') = Meet held held' first second seen × (length seen ≤ serving)
 
 -- an obstacle whose numbers the words once had: the serving number below the ticket number
 abbrev pub WasOut : ℕ → ℕ → Obstacle → Type 0

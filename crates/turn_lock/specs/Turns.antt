@@ -1,5 +1,5 @@
 -- What a whole turn, or a try for one, leaves of a seat's view.
-use Rattle.std.specs.Prelude.{◌≡◌, ℕ, ◌<◌, ◌++◌, List, [], ◌∷◌, length}
+use Rattle.std.specs.Prelude.{◌≡◌, ℕ, ◌<◌, ◌≤◌, ◌++◌, List, [], ◌∷◌, length}
 use Rattle.ho_base.specs.Marks.{Mark}
 use Rattle.ho_base.specs.declared.receipts.Receipt.{Receipt}
 use Rattle.ho_base.specs.declared.receipts.Receipt.TheVariants.{Place}
@@ -23,6 +23,6 @@ Made pr fits v e receipt w = (before : List EntryMark) × SeesOthers v.held v.se
 abbrev pub GaveUp : (Mark → ℕ) → View → View → Type 0
 GaveUp pr v w = (before : List EntryMark) × SeesOthers v.held v.seen before × IsLawful pr v.object v.callers before × (w ≡ returned v before)
 
--- another had the turn, or a ticket
+-- another had the turn, or a ticket, when as many turns were over as entries were seen
 abbrev pub Missed : (Mark → ℕ) → View → View → Type 0
-Missed pr v w = (serving : ℕ) × (ticket : ℕ) × (serving < ticket) × (w ≡ met v serving ticket) × (¬ IsWhole v) × IsLawful pr v.object v.callers v.seen
+Missed pr v w = (serving : ℕ) × (ticket : ℕ) × (serving < ticket) × (length v.seen ≤ serving) × (w ≡ met v serving ticket) × (¬ IsWhole v) × IsLawful pr v.object v.callers v.seen

@@ -6,7 +6,8 @@ use ho_base::Receipt;
 pub enum Attempt<C, R> {
     /// The reply, and the place of its entry.
     Answer(R, Receipt),
-    /// Another caller had the turn, or a ticket for it.
+    /// Another caller had the turn, or a ticket for it: the pass has met an obstacle more. That it was met
+    /// in this very try is the code's, and no contract says it.
     Busy(C),
     /// The caller has made as many calls as it may.
     Spent(C),

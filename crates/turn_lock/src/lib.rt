@@ -15,8 +15,9 @@
 //!
 //! The rule of the shared words is in `specs/Rule.antt`, and `docs/TURN_LOCK.md` tells it with the
 //! reason of each part. How long a call pauses between its tries, and what it looks at meanwhile,
-//! promises nothing: other pauses and looks only cost time. Who gets the turn, and when, is not
-//! promised either.
+//! promises nothing: other pauses and looks only cost time. Nor does what is told to those who sleep beside
+//! an object: a call that told other news would be proved, and only time would show it. Who gets the turn, and
+//! when, is not promised either.
 #![tactic(auto)]
 
 mod attempt;

@@ -10,6 +10,7 @@ use atomic_table::{Badge, Refused, Table};
 use ho_base::{Receipt, Unpaid};
 use ho_model::Stepper;
 use passes::Numbers;
+use pauses::{Hears, News, Nobody};
 use std::alloc::Global;
 use std::marker::{Brand, Model};
 use std::mem;
@@ -97,6 +98,29 @@ impl<M: Stepper> Shared<M> {
         ensures called { Called M.priority M.call_mark M.reply_mark M.fits M.may_want pass.old
             pass.new call result }
     {
+        self.call_and_tell(rt, pass, call, &Nobody, News::Nothing)
+    }
+
+    /// Makes the call as [`Shared::call`] does, and tells its news once it is over, with its entry or
+    /// without.
+    ///
+    /// Who shares a machine whose callers wait for each other's entries wakes them so. To tell the news
+    /// after `call` would do as well, for a copy of the answer more.
+    // never inlined, so that it writes its answer where the caller of an object's call wants it
+    #[inline(never)]
+    pub fn call_and_tell<R: Wait, H: Hears>(
+        &self,
+        rt: &R,
+        pass: &mut Pass,
+        call: M::Called,
+        bells: &H,
+        news: News,
+    ) -> Result<(M::Replied, Receipt), Unpaid<M::Called>>
+        requires { pass.old.table ≡ self.now }
+        ensures pass { IsSamePass pass.old pass.new }
+        ensures called { Called M.priority M.call_mark M.reply_mark M.fits M.may_want pass.old
+            pass.new call result }
+    {
         let board = &self.table.shared;
         let caller = pass.numbers.caller();
         if pass.numbers.is_spent(MOST_CALLS) {
@@ -109,6 +133,7 @@ impl<M: Stepper> Shared<M> {
         let served = take_turn(rt, board, &mut seat, caller, call);
         pass.badge = seat.into_badge();
         pass.numbers.count_call();
+        bells.tell(news);
         // for the proof: each arm has its own clause
         match served {
             Ok(answer) => Ok(answer),

@@ -1,5 +1,5 @@
 // The kinds of step, each one call on the table by a seat.
-ghost use Rattle.std.specs.Prelude.{◌≡◌, ◌≢◌, ℕ, ◌<◌, ◌^◌, [], ◌∷◌, ◌++◌, length, slice_index, List, Bool};
+ghost use Rattle.std.specs.Prelude.{◌≡◌, ◌≢◌, ℕ, ◌<◌, ◌≤◌, ◌^◌, [], ◌∷◌, ◌++◌, length, slice_index, List, Bool};
 ghost use Rattle.ho_model.specs.declared.marks.EntryMark.{EntryMark};
 ghost use Rattle.ho_model.specs.Entries.{entry};
 ghost use Rattle.ho_model.specs.Histories.{IsLegal, StandsFor};
@@ -75,6 +75,7 @@ pub(crate) fn try_ticket<M: Stepper>(board: &Board<M>, seat: &mut Seat<M>, servi
         (counted seat.old.me.0) seat.old.me.1 serving seat.new.me }
     ensures lost { result ≢ serving → (seat.new.me ≡
         (met seat.old.me.0 serving result, seat.old.me.1)) × (serving < result)
+        × (length seat.old.me.0.seen ≤ serving)
         × (¬ IsWhole seat.old.me.0)
         × IsLawful M.priority seat.old.me.0.object seat.old.me.0.callers seat.old.me.0.seen }
 {

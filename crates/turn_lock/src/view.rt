@@ -19,6 +19,7 @@ pub(crate) enum Turn {
 
 /// Why a try answered that the lock is busy: a serving number and a ticket number above it, so that the
 /// tickets from the first on were out. By the rule neither number was ever above its word.
+/// The serving number is at least the number of entries that the pass had seen before.
 #[derive(Clone, Copy, Debug, PartialEq, Eq)]
 pub struct Obstacle {
     pub serving: u64,
