@@ -1,3 +1,2 @@
-// Worked rows, and threads that share a queue.
+// Worked rows. Threads share it in the tests above all structures.
 mod rows;
-mod threads;

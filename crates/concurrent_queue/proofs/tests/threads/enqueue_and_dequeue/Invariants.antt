@@ -1,5 +1,0 @@
-use Rattle.concurrent_queue.specs.Queues.{IsOf}
-use Rattle.concurrent_queue.proofs.tests.threads.enqueue_and_dequeue.Given as goal
-
-abbrev pub invariant-loop-number : goal.invariant-loop-number
-invariant-loop-number g l = IsOf l.queue l.pass
