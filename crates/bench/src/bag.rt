@@ -3,9 +3,9 @@ ghost use Rattle.std.specs.Prelude.{◌≡◌, ◌<◌, ◌≤◌, All, IfOk};
 
 use crate::Trouble;
 use crate::hand_over::{Job, Outcome, Task, longest, tasks_of};
-use crate::line::StartLine;
 use concurrent_bag::{BagAdd, BagPass, BagTake, ConcurrentBag};
 use pauses::Pause;
+use races::{StartLine, Tally};
 use std::alloc::Global;
 use std::sync::Wait;
 use std::thread;
@@ -85,7 +85,7 @@ fn work<R: Wait + Clock>(
     requires { job.pass.table ≡ bag.now }
 {
     let Job { pass, task } = job;
-    let start = line.start(rt);
+    let start = line.timed_start(rt);
     let sum = match task {
         Task::Write(from, to) => add_and_take(rt, bag, pass, from, to),
         Task::Read => None,
@@ -132,7 +132,7 @@ pub fn nanoseconds<R: Wait + Threads + Sync + Clock>(
         requires { job.pass.table ≡ bag }
     { work(rt, &bag, &line, job) };
     match thread::map_vec(rt, jobs, &each) {
-        Ok(outcomes) => longest(rt, outcomes, count),
+        Ok(outcomes) => longest(rt, outcomes, Tally::below(count)),
         Err(_) => Err(Trouble::NoMemory),
     }
 }

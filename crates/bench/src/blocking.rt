@@ -3,12 +3,11 @@ ghost use Rattle.std.specs.Prelude.{◌≡◌, ◌<◌, ◌≤◌, All, IfOk};
 
 use crate::Trouble;
 use crate::hand_over::{Job, Outcome, Task, longest, tasks_of};
-use crate::line::StartLine;
 use blocking_collection::{AddReply, BlockingCollection, Member, Pass, Store, TakeReply};
 use cancel_flag::{CancelToken, cancel_pair};
+use races::{Countdown, StartLine, Tally};
 use std::alloc::Global;
 use std::sync::Wait;
-use std::sync::atomic::{AtomicU64, Ordering};
 use std::thread;
 use std::thread::Threads;
 use std::time::Clock;
@@ -18,7 +17,7 @@ fn add_all<R: Wait>(
     rt: &R,
     member: &mut Member<'_, u64>,
     token: &mut CancelToken,
-    adders: &AtomicU64,
+    adders: &Countdown,
     from: u64,
     to: u64,
 ) -> Option<u64> {
@@ -27,7 +26,7 @@ fn add_all<R: Wait>(
             return None;
         };
     }
-    if adders.fetch_sub(1, Ordering::SeqCst) == 1 {
+    if adders.count_off() {
         member.complete_adding(rt);
     }
     Some(0)
@@ -51,14 +50,14 @@ fn work<R: Wait + Clock>(
     alloc: Global,
     collection: &BlockingCollection<u64>,
     line: &StartLine,
-    adders: &AtomicU64,
+    adders: &Countdown,
     job: Job<Pass>,
 ) -> Outcome
     requires { job.pass.table ≡ collection.now }
 {
     let Job { pass, task } = job;
     let mut member = Member::new(collection, pass);
-    let start = line.start(rt);
+    let start = line.timed_start(rt);
     let Ok((_source, mut token)) = cancel_pair(alloc) else {
         return (start, None);
     };
@@ -105,12 +104,12 @@ pub fn nanoseconds<R: Wait + Threads + Sync + Clock>(
     let tasks = tasks_of(alloc, adders, takers, count)?;
     let jobs = jobs_of(alloc, &collection, &mut pass, tasks)?;
     let line = StartLine::new(adders + takers);
-    let adding = AtomicU64::new(adders);
+    let adding = Countdown::new(adders);
     let each = |job: Job<Pass>| -> Outcome
         requires { job.pass.table ≡ collection }
     { work(rt, alloc, &collection, &line, &adding, job) };
     match thread::map_vec(rt, jobs, &each) {
-        Ok(outcomes) => longest(rt, outcomes, count),
+        Ok(outcomes) => longest(rt, outcomes, Tally::below(count)),
         Err(_) => Err(Trouble::NoMemory),
     }
 }

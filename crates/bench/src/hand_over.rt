@@ -2,12 +2,11 @@
 ghost use Rattle.std.specs.Prelude.{◌≡◌, ◌<◌, ◌≤◌, All, IfOk};
 
 use crate::Trouble;
-use crate::line::{StartLine, nanoseconds_since};
 use channels::{Channel, Mode, NoMemory, Pass, ReadReply, Reader, WriteReply, Writer};
 use pauses::Pause;
+use races::{Countdown, StartLine, Tally, nanoseconds_since, share};
 use std::alloc::Global;
 use std::sync::Wait;
-use std::sync::atomic::{AtomicU64, Ordering};
 use std::thread;
 use std::thread::Threads;
 use std::time::{Clock, Instant};
@@ -46,7 +45,7 @@ fn write_one<R: Wait + Clock>(rt: &R, writer: &mut Writer<'_, u64>, number: u64)
 fn write_all<R: Wait + Clock>(
     rt: &R,
     writer: &mut Writer<'_, u64>,
-    writers: &AtomicU64,
+    writers: &Countdown,
     from: u64,
     to: u64,
 ) -> Option<u64> {
@@ -55,7 +54,7 @@ fn write_all<R: Wait + Clock>(
             return None;
         }
     }
-    if writers.fetch_sub(1, Ordering::SeqCst) == 1 && !writer.try_complete(rt, None) {
+    if writers.count_off() && !writer.try_complete(rt, None) {
         return None;
     }
     Some(0)
@@ -82,13 +81,13 @@ fn work<R: Wait + Clock>(
     rt: &R,
     channel: &Channel<u64>,
     line: &StartLine,
-    writers: &AtomicU64,
+    writers: &Countdown,
     job: Job<Pass>,
 ) -> Outcome
     requires { job.pass.table ≡ channel.now }
 {
     let Job { pass, task } = job;
-    let start = line.start(rt);
+    let start = line.timed_start(rt);
     let sum = match task {
         Task::Write(from, to) => {
             write_all(rt, &mut Writer::new(channel, pass), writers, from, to)
@@ -131,7 +130,8 @@ pub fn tasks_of(
 {
     let mut tasks = Vec::new(alloc);
     for i in 0..writers {
-        tasks.push(Task::Write(count * i / writers, count * (i + 1) / writers))?;
+        let (from, to) = share(count, writers, i);
+        tasks.push(Task::Write(from, to))?;
     }
     for _ in 0..readers {
         tasks.push(Task::Read)?;
@@ -139,8 +139,8 @@ pub fn tasks_of(
     Ok(tasks)
 }
 
-/// The longest time since a start, where the numbers below `count` were read.
-pub fn longest<R: Clock>(rt: &R, outcomes: Vec<Outcome>, count: u64) -> Result<u64, Trouble> {
+/// The longest time since a start, where numbers of that sum were read.
+pub fn longest<R: Clock>(rt: &R, outcomes: Vec<Outcome>, wanted: Tally) -> Result<u64, Trouble> {
     let mut nanoseconds: u64 = 0;
     let mut total: u64 = 0;
     for (start, sum) in outcomes.as_slice() {
@@ -148,8 +148,7 @@ pub fn longest<R: Clock>(rt: &R, outcomes: Vec<Outcome>, count: u64) -> Result<u
         nanoseconds = nanoseconds.max(since.ok_or(Trouble::NoClock)?);
         total = total.wrapping_add(sum.ok_or(Trouble::WrongNumbers)?);
     }
-    let wanted = count.wrapping_mul(count.wrapping_sub(1)) / 2;
-    if total == wanted {
+    if total == wanted.sum {
         Ok(nanoseconds)
     } else {
         Err(Trouble::WrongNumbers)
@@ -173,12 +172,12 @@ pub fn nanoseconds<R: Wait + Threads + Sync + Clock>(
     let tasks = tasks_of(alloc, writers, readers, count)?;
     let jobs = jobs_of(alloc, &channel, &mut pass, tasks)?;
     let line = StartLine::new(writers + readers);
-    let writing = AtomicU64::new(writers);
+    let writing = Countdown::new(writers);
     let each = |job: Job<Pass>| -> Outcome
         requires { job.pass.table ≡ channel }
     { work(rt, &channel, &line, &writing, job) };
     match thread::map_vec(rt, jobs, &each) {
-        Ok(outcomes) => longest(rt, outcomes, count),
+        Ok(outcomes) => longest(rt, outcomes, Tally::below(count)),
         Err(_) => Err(Trouble::NoMemory),
     }
 }

@@ -3,10 +3,10 @@ ghost use Rattle.std.specs.Prelude.{◌≡◌, ◌<◌, ◌≤◌, All, IfOk};
 
 use crate::Trouble;
 use crate::hand_over::{Job, Task, jobs_of, tasks_of};
-use crate::line::nanoseconds_since;
 use cancel_flag::{CancelToken, cancel_pair};
 use channel_wait::{ReadEnd, WriteEnd, read, write};
 use channels::{Channel, Mode, Pass, Reader, Writer};
+use races::nanoseconds_since;
 use std::alloc::Global;
 use std::sync::Wait;
 use std::thread;

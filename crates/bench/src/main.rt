@@ -12,7 +12,6 @@ mod blocking;
 mod hand_over;
 mod idle;
 mod lag;
-mod line;
 mod pairs;
 mod solo;
 mod steal;

@@ -4,8 +4,8 @@ ghost use Rattle.concurrent_queue.specs.Queues.{IsOf};
 
 use crate::Trouble;
 use crate::hand_over::{Job, Outcome, Task, longest, tasks_of};
-use crate::line::StartLine;
 use concurrent_queue::{ConcurrentQueue, DequeueReply, EnqueueReply, QueuePass};
+use races::{StartLine, Tally};
 use std::alloc::Global;
 use std::sync::Wait;
 use std::thread;
@@ -50,7 +50,7 @@ fn work<R: Wait + Clock>(
     requires { IsOf queue.now job.pass }
 {
     let Job { pass, task } = job;
-    let start = line.start(rt);
+    let start = line.timed_start(rt);
     let sum = match task {
         Task::Write(from, to) => pair_all(rt, queue, pass, from, to),
         Task::Read => None,
@@ -99,7 +99,7 @@ pub fn nanoseconds<R: Wait + Threads + Sync + Clock>(
         requires { IsOf queue job.pass }
     { work(rt, &queue, &line, job) };
     match thread::map_vec(rt, jobs, &each) {
-        Ok(outcomes) => longest(rt, outcomes, count),
+        Ok(outcomes) => longest(rt, outcomes, Tally::below(count)),
         Err(_) => Err(Trouble::NoMemory),
     }
 }

@@ -2,8 +2,8 @@
 ghost use Rattle.std.specs.Prelude.{◌≡◌};
 
 use crate::Trouble;
-use crate::line::nanoseconds_since;
 use channels::{Channel, ChannelCall, ChannelReply, Mode, Pass};
+use races::nanoseconds_since;
 use std::alloc::Global;
 use std::sync::Wait;
 use std::time::{Clock, Instant};

@@ -4,12 +4,11 @@ ghost use Rattle.std.specs.Prelude.{◌≡◌, ◌<◌, ◌≤◌};
 use crate::Trouble;
 use crate::bag::{add_one, jobs_of};
 use crate::hand_over::{Job, Outcome, Task, longest, tasks_of};
-use crate::line::StartLine;
 use concurrent_bag::{BagPass, BagTake, ConcurrentBag};
 use pauses::Pause;
+use races::{Countdown, StartLine, Tally};
 use std::alloc::Global;
 use std::sync::Wait;
-use std::sync::atomic::{AtomicU64, Ordering};
 use std::thread;
 use std::thread::Threads;
 use std::time::Clock;
@@ -36,7 +35,7 @@ fn steal_all<R: Wait>(
     rt: &R,
     bag: &ConcurrentBag<u64>,
     mut pass: BagPass,
-    left: &AtomicU64,
+    left: &Countdown,
 ) -> Option<u64>
     requires { pass.table ≡ bag.now }
 {
@@ -45,11 +44,11 @@ fn steal_all<R: Wait>(
     for _ in rt.forever() {
         match bag.take(rt, &mut pass) {
             (BagTake::Item { item, .. }, _) => {
-                left.fetch_sub(1, Ordering::SeqCst);
+                left.count_off();
                 sum = sum.wrapping_add(item);
                 pause.reset();
             }
-            (BagTake::Empty, _) if left.load(Ordering::SeqCst) == 0 => return Some(sum),
+            (BagTake::Empty, _) if left.is_over() => return Some(sum),
             (BagTake::Empty, _) => pause.take(rt),
         }
     }
@@ -60,13 +59,13 @@ fn work<R: Wait + Clock>(
     rt: &R,
     bag: &ConcurrentBag<u64>,
     line: &StartLine,
-    left: &AtomicU64,
+    left: &Countdown,
     job: Job<BagPass>,
 ) -> Outcome
     requires { job.pass.table ≡ bag.now }
 {
     let Job { pass, task } = job;
-    let start = line.start(rt);
+    let start = line.timed_start(rt);
     let sum = match task {
         Task::Write(from, to) => add_all(rt, bag, pass, from, to),
         Task::Read => steal_all(rt, bag, pass, left),
@@ -88,12 +87,12 @@ pub fn nanoseconds<R: Wait + Threads + Sync + Clock>(
     let tasks = tasks_of(alloc, 1, takers, count)?;
     let jobs = jobs_of(alloc, &bag, &mut pass, tasks)?;
     let line = StartLine::new(1 + takers);
-    let left = AtomicU64::new(count);
+    let left = Countdown::new(count);
     let each = |job: Job<BagPass>| -> Outcome
         requires { job.pass.table ≡ bag }
     { work(rt, &bag, &line, &left, job) };
     match thread::map_vec(rt, jobs, &each) {
-        Ok(outcomes) => longest(rt, outcomes, count),
+        Ok(outcomes) => longest(rt, outcomes, Tally::below(count)),
         Err(_) => Err(Trouble::NoMemory),
     }
 }

@@ -3,13 +3,12 @@ ghost use Rattle.std.specs.Prelude.{◌≡◌, ◌<◌, ◌≤◌};
 
 use crate::Trouble;
 use crate::hand_over::{Job, Outcome, Task, jobs_of, longest, tasks_of};
-use crate::line::StartLine;
 use cancel_flag::{CancelToken, cancel_pair};
 use channel_wait::{ReadEnd, WriteEnd, read, write};
 use channels::{Channel, Mode, Pass, Reader, Writer};
+use races::{Countdown, StartLine, Tally};
 use std::alloc::Global;
 use std::sync::Wait;
-use std::sync::atomic::{AtomicU64, Ordering};
 use std::thread;
 use std::thread::Threads;
 use std::time::Clock;
@@ -19,7 +18,7 @@ fn write_all<R: Wait>(
     rt: &R,
     writer: &mut Writer<'_, u64>,
     token: &mut CancelToken,
-    writers: &AtomicU64,
+    writers: &Countdown,
     from: u64,
     to: u64,
 ) -> Option<u64> {
@@ -28,7 +27,7 @@ fn write_all<R: Wait>(
             return None;
         };
     }
-    if writers.fetch_sub(1, Ordering::SeqCst) == 1 && !writer.try_complete(rt, None) {
+    if writers.count_off() && !writer.try_complete(rt, None) {
         return None;
     }
     Some(0)
@@ -52,13 +51,13 @@ fn work<R: Wait + Clock>(
     alloc: Global,
     channel: &Channel<u64>,
     line: &StartLine,
-    writers: &AtomicU64,
+    writers: &Countdown,
     job: Job<Pass>,
 ) -> Outcome
     requires { job.pass.table ≡ channel.now }
 {
     let Job { pass, task } = job;
-    let start = line.start(rt);
+    let start = line.timed_start(rt);
     let Ok((_source, mut token)) = cancel_pair(alloc) else {
         return (start, None);
     };
@@ -89,12 +88,12 @@ pub fn nanoseconds<R: Wait + Threads + Sync + Clock>(
     let tasks = tasks_of(alloc, writers, readers, count)?;
     let jobs = jobs_of(alloc, &channel, &mut pass, tasks)?;
     let line = StartLine::new(writers + readers);
-    let writing = AtomicU64::new(writers);
+    let writing = Countdown::new(writers);
     let each = |job: Job<Pass>| -> Outcome
         requires { job.pass.table ≡ channel }
     { work(rt, alloc, &channel, &line, &writing, job) };
     match thread::map_vec(rt, jobs, &each) {
-        Ok(outcomes) => longest(rt, outcomes, count),
+        Ok(outcomes) => longest(rt, outcomes, Tally::below(count)),
         Err(_) => Err(Trouble::NoMemory),
     }
 }

@@ -1,0 +1,22 @@
+//! Tests with threads that share each of the structures, and nothing else.
+//!
+//! They stand above all of the crates that they call, so that those are proved once and without them, and
+//! on `races` for what such tests have in common. It promises nothing upward.
+#![tactic(auto)]
+
+#[cfg(test)]
+mod bags;
+#[cfg(test)]
+mod channel_calls;
+#[cfg(test)]
+mod channel_waits;
+#[cfg(test)]
+mod channel_wakes;
+#[cfg(test)]
+mod collection_wakes;
+#[cfg(test)]
+mod collections;
+#[cfg(test)]
+mod lags;
+#[cfg(test)]
+mod queues;
