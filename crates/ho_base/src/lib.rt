@@ -4,6 +4,9 @@
 //! It stands on std alone. It promises upward that an item's number and priority are read off its
 //! mark, that a fault is never zero, that words and texts are the bytes they were made of, and that a
 //! number is the one its digits stand for.
+//!
+//! Want of memory is the one free answer: a `Word::new` that always gave it would be proved, so a test calls
+//! it with ample memory.
 #![tactic(auto)]
 
 mod bytes;

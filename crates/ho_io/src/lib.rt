@@ -11,6 +11,9 @@
 //! most one put a byte; and that exactly one fetch or put failed where these say so, and else none, and
 //! of which file the fetch was. `MemShelf` and `MemSink` fail exactly at the calls that were named. It
 //! stands on `ho_base`.
+//!
+//! Want of memory is the one free answer of the shelves and the sink in memory: an `add` or a `fail_at` that
+//! always gave it would be proved, so tests call each with ample memory.
 #![tactic(auto)]
 
 mod failing;

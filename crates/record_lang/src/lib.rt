@@ -11,8 +11,9 @@
 //! reading and writing the rows of texts and on `csv` for what a row and its reader and writer are,
 //! on `itoa` for digits and on `smallvec` for fields, of which most are short.
 //!
-//! Want of memory is the one free answer: a `Field::new`, a `Report::text` or a `one_thread_text` that
-//! always gave it would be proved, so tests call each with ample memory.
+//! Want of memory is the one free answer: a `Field::new`, a `Stages` that takes no stage, a
+//! `Report::push_dropped`, a `Report::text` or a `one_thread_text` that always gave it would be proved, so
+//! tests call each with ample memory.
 #![tactic(auto)]
 
 mod causes;

@@ -54,7 +54,7 @@ fn put_refused(
 }
 
 // Writes the row of an outcome that is a result.
-fn put_if_result(
+pub(crate) fn put_if_result(
     lines: &mut Writer<Vec<u8>>,
     row: &mut ByteRecord,
     outcome: &Outcome,
@@ -71,7 +71,7 @@ fn put_if_result(
 }
 
 // Writes the row of an outcome that is a refusal.
-fn put_if_refused(
+pub(crate) fn put_if_refused(
     lines: &mut Writer<Vec<u8>>,
     row: &mut ByteRecord,
     outcome: &Outcome,

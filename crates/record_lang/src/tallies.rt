@@ -15,8 +15,20 @@ pub(crate) struct Tally {
 }
 
 impl Tally {
+    // Of no records.
+    pub(crate) fn none() -> Tally
+        ensures { result ≡ record { fed = 0; results = 0; refused = 0; filtered = 0 } }
+    {
+        Tally {
+            fed: 0,
+            results: 0,
+            refused: 0,
+            filtered: 0,
+        }
+    }
+
     // Counts one more outcome.
-    fn count(&mut self, outcome: &Outcome)
+    pub(crate) fn count(&mut self, outcome: &Outcome)
         requires room { self.old.fed < 2 ^ 64 - 1 }
         requires counted { (self.old.results ≤ self.old.fed) × (self.old.refused ≤ self.old.fed) × (self.old.filtered ≤ self.old.fed) }
         ensures { TalliesOne self.old self.new outcome.now }
@@ -34,12 +46,7 @@ impl Tally {
         ensures counts { counts_in result ≡ counts_of outcomes.now }
         ensures fed { result.fed ≡ length outcomes.now }
     {
-        let mut tally = Tally {
-            fed: 0,
-            results: 0,
-            refused: 0,
-            filtered: 0,
-        };
+        let mut tally = Tally::none();
         for outcome in outcomes {
             tally.count(outcome);
         }

@@ -1,15 +1,17 @@
 // The text of a run on one thread.
-ghost use Rattle.std.specs.Prelude.{map, ◌≡◌, [], ◌≤◌, false, length, IfOk};
+ghost use Rattle.std.specs.Prelude.{◌≡◌, IfOk};
 ghost use Rattle.std.specs.List.{position};
 ghost use Rattle.record_lang.specs.Guards.{fed_rows, meets, stop_code};
-ghost use Rattle.record_lang.specs.Outcomes.{record_outcome};
 ghost use Rattle.record_lang.specs.Texts.{run_text};
 
 use crate::outcomes::outcome_of;
-use crate::pipelines::Stage;
-use crate::{Pipeline, Record, Records, Report};
+use crate::report_rows::{put_counts, put_ending, put_if_refused, put_if_result};
+use crate::tallies::Tally;
+use crate::{Pipeline, Record, Records};
+use csv::ByteRecord;
 use ho_base::{Fault, NoMemory, Text};
 use std::alloc::Global;
+use text_rows::{finish_lines, new_lines};
 
 // The records that are fed, and the guard's code if feeding stops.
 struct FedRows {
@@ -42,22 +44,10 @@ fn rows_to_feed(pipeline: &Pipeline, records: Records) -> FedRows
     }
 }
 
-// What becomes of records.
-fn report_of(alloc: Global, stages: &[Stage], rows: Vec<Record>) -> Result<Report, NoMemory>
-    requires { length stages.now ≤ 8 }
-    ensures { IfOk result (λ r. r ≡ record { outcomes = map (record_outcome stages.now) rows.items; has_drops = false; dropped = [] }) }
-{
-    let mut report = Report::new(alloc);
-    'records: for record in rows {
-        let outcome = outcome_of(stages, record)?;
-        report.push(outcome)?;
-    }
-    Ok(report)
-}
-
 /// The text of a run on one thread: the rows of the results, then those of the refusals, each in
-/// order of the records' numbers, then the counts and the ending. Time and memory are linear in
-/// the records and the text.
+/// order of the records' numbers, then the counts and the ending. It is that of a [`Report`](crate::Report)
+/// of the outcomes, whose rows are written as the outcomes come, so that none is kept. Time and memory are
+/// linear in the records and the text.
 pub fn one_thread_text(
     alloc: Global,
     pipeline: &Pipeline,
@@ -65,7 +55,22 @@ pub fn one_thread_text(
 ) -> Result<Text, NoMemory>
     ensures { IfOk result (λ t. t ≡ run_text pipeline.now records) }
 {
+    let stages = pipeline.stage_list();
+    let mut results = new_lines(alloc);
+    let mut refusals = new_lines(alloc);
+    let mut row = ByteRecord::new(alloc);
+    let mut tally = Tally::none();
     let FedRows { rows, code } = rows_to_feed(pipeline, records);
-    let report = report_of(alloc, pipeline.stage_list(), rows)?;
-    report.text(alloc, code)
+    'records: for record in rows {
+        let outcome = outcome_of(stages, record)?;
+        put_if_result(&mut results, &mut row, &outcome)?;
+        put_if_refused(&mut refusals, &mut row, &outcome)?;
+        tally.count(&outcome);
+    }
+    put_counts(&mut refusals, &mut row, tally)?;
+    put_ending(&mut refusals, &mut row, code)?;
+    let mut text = finish_lines(results)?;
+    let rest = finish_lines(refusals)?;
+    text.extend_from_slice(&rest)?;
+    Ok(Text::from_vec(text))
 }
