@@ -17,7 +17,7 @@ use Rattle.drive_kit.specs.Plans.{IsRowOf, Plan, calls_by}
 use Rattle.drive_kit.specs.declared.calls.Kind.{Kind}
 use Rattle.drive_kit.specs.declared.scripts.ScriptRow.{ScriptRow}
 
-calls_by-append : (caller : ℕ) (xs ys : List ScriptRow) → calls_by caller (xs ++ ys) ≡ calls_by caller xs ++ calls_by caller ys
+pub calls_by-append : (caller : ℕ) (xs ys : List ScriptRow) → calls_by caller (xs ++ ys) ≡ calls_by caller xs ++ calls_by caller ys
 calls_by-append caller [] ys = refl
 calls_by-append caller (row ∷ xs) ys =
     let rest = calls_by-append caller xs ys in

@@ -1,8 +1,12 @@
 pub mod BackLemmas
 pub mod CheckLemmas
+pub mod DriveLemmas
 pub mod HistoryLemmas
 pub mod NumberLemmas
+pub mod OrderLemmas
 pub mod PlanLemmas
+pub mod PlayLemmas
 pub mod ReadingLemmas
 pub mod ScriptLemmas
+pub mod TellLemmas
 pub mod TextLemmas

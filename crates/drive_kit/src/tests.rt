@@ -1,3 +1,5 @@
+mod driving;
+
 use super::*;
 use ho_base::NoMemory;
 use ho_model::{Call, Entry, History, Mode, Object, Reply, Store};

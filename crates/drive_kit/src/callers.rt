@@ -1,0 +1,199 @@
+// The callers of a script, side by side, each played by a worker of its own.
+ghost use Rattle.std.specs.Prelude.{◌≡◌, IfOk};
+ghost use Rattle.std.specs.Thread.{IsSync};
+ghost use Rattle.ho_base.specs.Marks.{number_priority};
+ghost use Rattle.ho_base.specs.declared.receipts.Receipt.TheVariants.{Place};
+ghost use Rattle.passes.specs.Numbers.{HasNumber};
+ghost use Rattle.passes.specs.Calls.{IsSamePass, Joins};
+ghost use Rattle.drive_kit.specs.Calls.{IsCallOf, kind_of};
+ghost use Rattle.drive_kit.specs.Playing.{AddsPlaced, HasPlayed, HoldsOne, IsAppended, IsOf, IsPlace, IsPlayed, MayPlay, PlaysRow, pass_of};
+
+use crate::scripts::ScriptRow;
+use crate::stands::{DrivenPass, Stand, caller_of, has_spare, play, split, take_in};
+use ho_base::{NoMemory, Receipt};
+use ho_io::Gate;
+use ho_model::{Call, Entry};
+use std::alloc::Global;
+use std::sync::Wait;
+use std::thread::{Threads, join};
+
+/// An entry, and how many entries of the history stand before it.
+#[derive(Drop)]
+pub(crate) struct PlacedEntry {
+    pub(crate) place: u64,
+    pub(crate) entry: Entry,
+}
+
+/// What workers leave: the pass with their numbers, and their entries, unless one found no memory.
+#[derive(Drop)]
+pub(crate) struct Played {
+    pub(crate) pass: DrivenPass,
+    pub(crate) made: Result<Vec<PlacedEntry>, NoMemory>,
+}
+
+fn place_of(receipt: Receipt) -> u64
+    requires { IsPlace receipt }
+    ensures { receipt ≡ Place result }
+{
+    match receipt {
+        Receipt::Place { number } => number,
+        _ => unreachable!(),
+    }
+}
+
+// Makes one call, and tells its entry with its place.
+fn play_call<R: Wait>(
+    rt: &R,
+    alloc: Global,
+    stand: &Stand,
+    pass: &mut DrivenPass,
+    call: Call,
+) -> Result<PlacedEntry, NoMemory>
+    requires of { IsOf stand.now pass.old }
+    requires call { IsCallOf (kind_of (pass_of pass.old).object) call }
+    ensures of { IsOf stand.now pass.new }
+    ensures same { IsSamePass (pass_of pass.old) (pass_of pass.new) }
+    ensures adds { IfOk result (λ made. AddsPlaced (pass_of pass.old) call made (pass_of pass.new)) }
+{
+    let caller = caller_of(pass);
+    let (reply, receipt) = play(rt, alloc, stand, pass, call)?;
+    Ok(PlacedEntry {
+        place: place_of(receipt),
+        entry: Entry {
+            caller,
+            call,
+            reply,
+        },
+    })
+}
+
+// Plays a row, if it is that of the pass's caller. The gate comes before the call.
+fn play_row<G: Gate, R: Wait>(
+    rt: &R,
+    alloc: Global,
+    stand: &Stand,
+    pass: &mut DrivenPass,
+    gate: &G,
+    row: ScriptRow,
+    made: &mut Vec<PlacedEntry>,
+) -> Result<(), NoMemory>
+    requires of { IsOf stand.now pass.old }
+    requires call { IsCallOf (kind_of (pass_of pass.old).object) row.call }
+    requires own { HasNumber (pass_of pass.old).held (pass_of pass.old).caller }
+    requires one { HoldsOne (pass_of pass.old) }
+    ensures of { IsOf stand.now pass.new }
+    ensures same { IsSamePass (pass_of pass.old) (pass_of pass.new) }
+    ensures played { IfOk result (λ _. PlaysRow row (pass_of pass.old) made.old.items (pass_of pass.new) made.new.items) }
+{
+    let caller = caller_of(pass);
+    if row.caller != caller {
+        return Ok(());
+    }
+    gate.at(rt, caller, made.len() as u64);
+    let entry = play_call(rt, alloc, stand, pass, row.call)?;
+    made.push(entry)?;
+    Ok(())
+}
+
+// Plays the rows of the pass's caller, in order, until one finds no memory.
+fn play_rows<G: Gate, R: Wait>(
+    rt: &R,
+    alloc: Global,
+    stand: &Stand,
+    pass: &mut DrivenPass,
+    gate: &G,
+    rows: &[ScriptRow],
+) -> Result<Vec<PlacedEntry>, NoMemory>
+    requires ready { MayPlay stand.now rows.now pass.old }
+    requires one { HoldsOne (pass_of pass.old) }
+    ensures of { IsOf stand.now pass.new }
+    ensures same { IsSamePass (pass_of pass.old) (pass_of pass.new) }
+    ensures played { IfOk result (λ made. HasPlayed rows.now (pass_of pass.new) made.items) }
+{
+    let mut made = Vec::new(alloc);
+    for row in rows {
+        play_row(rt, alloc, stand, pass, gate, *row, &mut made)?;
+    }
+    Ok(made)
+}
+
+// The work of one caller.
+fn play_own<G: Gate, R: Wait>(
+    rt: &R,
+    alloc: Global,
+    stand: &Stand,
+    mut pass: DrivenPass,
+    gate: &G,
+    rows: &[ScriptRow],
+) -> Played
+    requires ready { MayPlay stand.now rows.now pass }
+    requires one { HoldsOne (pass_of pass) }
+    ensures { IsPlayed stand.now rows.now (pass_of pass) result }
+{
+    let made = play_rows(rt, alloc, stand, &mut pass, gate, rows);
+    Played { pass, made }
+}
+
+// The entries of both.
+fn append(
+    made: Result<Vec<PlacedEntry>, NoMemory>,
+    more: Result<Vec<PlacedEntry>, NoMemory>,
+) -> Result<Vec<PlacedEntry>, NoMemory>
+    ensures { IsAppended made more result }
+{
+    let mut all = made?;
+    let mut more = more?;
+    all.append(&mut more)?;
+    Ok(all)
+}
+
+// Takes in what other workers leave.
+fn gather(stand: &Stand, rest: Played, other: Played) -> Played
+    requires { IsOf stand.now rest.pass × IsOf stand.now other.pass }
+    ensures of { IsOf stand.now result.pass }
+    ensures joins { Joins number_priority (pass_of rest.pass) (pass_of other.pass) (pass_of result.pass) }
+    ensures made { IsAppended rest.made other.made result.made }
+{
+    let Played { mut pass, made } = rest;
+    let Played {
+        pass: other,
+        made: more,
+    } = other;
+    take_in(stand, &mut pass, other);
+    Played {
+        pass,
+        made: append(made, more),
+    }
+}
+
+// Plays the rows of each number of the pass, all side by side, and joins all workers, also where one
+// finds no memory.
+#[cycle(callers)]
+pub(crate) fn play_all<G: Gate, R: Wait + Threads + Sync>(
+    rt: &R,
+    alloc: Global,
+    stand: &Stand,
+    mut pass: DrivenPass,
+    gate: &G,
+    rows: &[ScriptRow],
+) -> Played
+    requires { MayPlay stand.now rows.now pass }
+    ensures { IsPlayed stand.now rows.now (pass_of pass) result }
+{
+    if !has_spare(&pass) {
+        return play_own(rt, alloc, stand, pass, gate, rows);
+    }
+    let other = split(stand, &mut pass);
+    let (first, rest) = join(
+        rt,
+        move || -> Played
+            requires { IsSync R.row × IsSync G.row × MayPlay stand.now rows.now other × HoldsOne (pass_of other) }
+            ensures { IsPlayed stand.entry.now rows.entry.now (pass_of other) result }
+        { play_own(rt, alloc, stand, other, gate, rows) },
+        move || -> Played
+            requires { IsSync R.row × IsSync G.row × MayPlay stand.now rows.now pass }
+            ensures { IsPlayed stand.entry.now rows.entry.now (pass_of pass) result }
+        { play_all(rt, alloc, stand, pass, gate, rows) },
+    );
+    gather(stand, rest, first)
+}
