@@ -54,6 +54,13 @@ waits_for other = false
 
 -- whether a command is not built yet
 abbrev pub is_unbuilt : Option Command → Bool
-is_unbuilt None = false
-is_unbuilt (Some Plain) = false
-is_unbuilt (Some other) = true
+is_unbuilt (Some Run) = true
+is_unbuilt (Some Made) = true
+is_unbuilt other = false
+
+-- whether a command reads files
+abbrev pub is_reading : Option Command → Bool
+is_reading (Some Plain) = true
+is_reading (Some Drive) = true
+is_reading (Some Check) = true
+is_reading other = false

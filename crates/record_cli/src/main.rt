@@ -1,30 +1,37 @@
 //! The program: takes the words of the command line, runs the command that they name over real files
 //! and standard output, and exits with the number of its status.
 //!
-//! [`top::run_plain`] is the top call. It promises the exact bytes and status for the words and files,
-//! where shelf and sink tell them. Over any shelf and sink it promises how much is read and written at
-//! most, that at most one fetch a file gives no byte, that room is asked for once, for the whole text,
-//! that each fault is told by its status and no other status comes with one, and that nothing is written
-//! after a read fault or want of memory. Where the shelf tells its files, a read fault is of the
-//! pipeline's file, or of the record file after a pipeline that is not refused. `docs/FORMATS.md` tells
-//! commands, statuses and texts.
-//! The crate stands on `record_lang` for what a pipeline and records mean, on `text_rows` for rows as
-//! they are written, on `ho_io` for files and output, and on `ho_base` for words.
+//! [`top::run_plain`] runs the commands that do not wait for other threads, and always returns;
+//! [`run::run`] runs all, and hands those on. Both promise the exact bytes and status for the words and
+//! files, where shelf and sink tell them. Over any shelf and sink they promise how much is read and
+//! written at most, that at most one fetch a file gives no byte, that room is asked for once, for the
+//! whole text, that each fault is told by its status and no other status comes with one, and that
+//! nothing is written after a read fault or want of memory. Where the shelf tells its files, a read
+//! fault is of the first file, or of the second after a first that is not refused. Where a script was
+//! played and its history written whole, `run` shows the whole pass of the object that has seen exactly
+//! this history, and else nothing. `docs/FORMATS.md` tells commands, statuses and texts.
+//! The crate stands on `record_lang` for what a pipeline and records mean, on `drive_kit` for scripts,
+//! their callers and the verdict on a history, on `text_rows` for rows as they are written, on `ho_io`
+//! for files, output and gates, and on `ho_base` for words.
 //!
 //! No contract can say which words the system gives: `take_words` promises nothing, and the stored run
 //! shows that it takes them.
 #![tactic(auto)]
 
 mod answer;
+mod check;
 mod commands;
 mod computed;
+mod drive;
+mod finished;
 mod plain;
+mod run;
 mod status;
 mod top;
 
 use crate::status::Status;
 use ho_base::Word;
-use ho_io::{DiskShelf, TerminalSink};
+use ho_io::{DiskShelf, OpenGate, TerminalSink};
 use std::env;
 use std::io::ErrorKind;
 use std::process::ExitCode;
@@ -60,7 +67,11 @@ fn main(rt: HostRuntime) -> ExitCode {
     };
     let mut shelf = DiskShelf::new(&rt);
     let mut out = TerminalSink::new(&rt);
-    let status = top::run_plain(rt.alloc(), &words, &mut shelf, &mut out);
+    let status = if commands::waits(&words) {
+        run::run(&rt, rt.alloc(), &words, &mut shelf, &mut out, &OpenGate).status
+    } else {
+        top::run_plain(rt.alloc(), &words, &mut shelf, &mut out)
+    };
     ExitCode::from(status.number())
 }
 

@@ -1,10 +1,13 @@
 // Whole runs: words and files in, status and bytes out. The expected bytes are worked by hand from
 // the formats.
+mod judged;
+
 use crate::commands::waits;
+use crate::run::run;
 use crate::status::Status;
 use crate::top::run_plain;
 use ho_base::{NoMemory, Word};
-use ho_io::{DiskShelf, FreeShelf, FreeSink, MemShelf, MemSink, Shelf, Sink};
+use ho_io::{DiskShelf, FreeShelf, FreeSink, MemShelf, MemSink, OpenGate, Shelf, Sink};
 use std::alloc::Global;
 use std::test::Fail;
 
@@ -43,12 +46,26 @@ fn failing_shelf(alloc: Global, files: &[(&[u8], &[u8])], call: u64) -> Result<M
     Ok(shelf)
 }
 
+// Runs a command that waits for no other call. The others are not asked for here.
+fn run_at_once<S: Shelf, K: Sink>(
+    alloc: Global,
+    words: &[Word],
+    shelf: &mut S,
+    out: &mut K,
+) -> Status {
+    // for the proof: `run_plain` asks that the command does not wait
+    if waits(words) {
+        return Status::NotBuilt;
+    }
+    run_plain(alloc, words, shelf, out)
+}
+
 // Runs `plain p f` over these files, and writes in pieces of a few bytes.
 fn plain(alloc: Global, pipe: &[u8], records: &[u8]) -> Result<(Status, Vec<u8>), Fail> {
     let words = words_of(alloc, &[b"plain", b"p", b"f"])?;
     let mut shelf = shelf_of(alloc, pipe, records)?;
     let mut out = FreeSink::new(alloc, 7);
-    let status = run_plain(alloc, &words, &mut shelf, &mut out);
+    let status = run_at_once(alloc, &words, &mut shelf, &mut out);
     Ok((status, out.taken().to_vec(alloc)?))
 }
 
@@ -189,12 +206,12 @@ fn words_have_a_form_or_are_refused(rt: HostRuntime) -> Result<(), Fail> {
             b"usage\n",
             false,
         ),
-        (&[b"drive", b"s"], Status::NotBuilt, b"notbuilt\n", true),
+        (&[b"drive", b"s"], Status::Missing, b"missing,s\n", true),
         (&[b"drive", b""], Status::Usage, b"usage\n", false),
         (
             &[b"check", b"s", b"h"],
-            Status::NotBuilt,
-            b"notbuilt\n",
+            Status::Missing,
+            b"missing,s\n",
             false,
         ),
         (
@@ -227,7 +244,8 @@ fn words_have_a_form_or_are_refused(rt: HostRuntime) -> Result<(), Fail> {
         let mut shelf = shelf_of(alloc, PIPELINE, RECORDS)?;
         let mut out = FreeSink::new(alloc, 64);
         assert_eq!(rt; waits(&words), waiting);
-        assert_eq!(rt; run_plain(alloc, &words, &mut shelf, &mut out), status);
+        let finished = run(&rt, alloc, &words, &mut shelf, &mut out, &OpenGate);
+        assert_eq!(rt; finished.status, status);
         assert_eq!(rt; out.taken(), text);
     }
     Ok(())
@@ -265,7 +283,7 @@ fn a_failed_fetch_writes_nothing(rt: HostRuntime) -> Result<(), Fail> {
     for call in 0..5 {
         let mut shelf = failing_shelf(alloc, &[(b"p", PIPELINE), (b"f", RECORDS)], call)?;
         let mut out = FreeSink::new(alloc, 64);
-        let status = run_plain(alloc, &words, &mut shelf, &mut out);
+        let status = run_at_once(alloc, &words, &mut shelf, &mut out);
         let (want, text) = if call < 4 {
             (Status::ReadFault, b"".as_slice())
         } else {
@@ -297,7 +315,7 @@ fn the_first_file_is_judged_before_the_second_is_fetched(rt: HostRuntime) -> Res
         let mut shelf = failing_shelf(alloc, files, call)?;
         let mut out = FreeSink::new(alloc, 64);
         assert_eq!(rt;
-            run_plain(alloc, &words, &mut shelf, &mut out),
+            run_at_once(alloc, &words, &mut shelf, &mut out),
             status,
             "at fetch {call}"
         );
@@ -313,7 +331,7 @@ fn a_second_put_that_fails_leaves_the_first_piece(rt: HostRuntime) -> Result<(),
     let mut shelf = shelf_of(alloc, ONE_STAGE, b"")?;
     let mut out = MemSink::new(alloc, 8);
     out.fail_at(1)?;
-    let status = run_plain(alloc, &words, &mut shelf, &mut out);
+    let status = run_at_once(alloc, &words, &mut shelf, &mut out);
     assert_eq!(rt; status, Status::WriteFault);
     assert_eq!(rt; out.taken(), b"counts,0".as_slice());
     Ok(())
@@ -328,7 +346,7 @@ fn a_failed_put_leaves_the_front_of_the_text(rt: HostRuntime) -> Result<(), Fail
         let mut shelf = shelf_of(alloc, PIPELINE, RECORDS)?;
         let mut out = MemSink::new(alloc, 8);
         out.fail_at(call as u64)?;
-        let status = run_plain(alloc, &words, &mut shelf, &mut out);
+        let status = run_at_once(alloc, &words, &mut shelf, &mut out);
         let want = if call < 8 {
             Status::WriteFault
         } else {
