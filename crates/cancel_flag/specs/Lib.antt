@@ -1,2 +1,3 @@
 pub mod Rule
 pub mod Seen
+pub mod Looks

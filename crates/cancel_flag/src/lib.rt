@@ -14,7 +14,8 @@
 //! read, so there is no answer without a load, and a token that has answered true never answers false.
 //! No token answers true before its source has cancelled: where source and token meet again, in
 //! [`CancelSource::tell`], the token has seen 1 only where the source has. And a token that was told
-//! that its source has cancelled answers true at its next look.
+//! that its source has cancelled answers true at its next look. `specs/Looks.antt` has the words for what
+//! several looks leave of a token, in which calls that look again and again say which looks they took.
 //!
 //! A look is three atomic loads, and takes the cell's lock only while the one swap is under way.
 //! Only `cancel_pair` and `another` may want memory.

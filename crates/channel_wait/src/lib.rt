@@ -29,11 +29,12 @@
 //! gave it would be proved, so tests show that each succeeds.
 //!
 //! It stands on `channels` for single calls and single tries, on `wait_loop` for the loops and for the
-//! words of what they add (`WaitsOut`, `PollsOut`), on `cancel_flag` for the token, on `channel_laws` for
-//! the law that a wait is answered in the kind of its begin, and on `futures` for what a poll owes its
-//! caller. It promises upward which own entries each call adds and what its answer has to do with them;
-//! that each of them is one counted call; that a wait's answer is handed out once, by the entry that
-//! fetched it; and that a wait which was given up took no item and left none.
+//! words of what they add (`WaitsOut`, `PollsOut`), on `cancel_flag` for the token and for the words of
+//! what looks at it leave, on `channel_laws` for the law that a wait is answered in the kind of its begin,
+//! and on `futures` for what a poll owes its caller. It promises upward which own entries each call adds
+//! and what its answer has to do with them; that each of them is one counted call; that a wait's answer is
+//! handed out once, by the entry that fetched it; and that a wait which was given up took no item and left
+//! none.
 //!
 //! What the inner calls serve alike, a writer or a reader, they take as a [`Side`](channels::Side),
 //! since a future's poll may not call what asks that an item is `Send`.

@@ -1,5 +1,5 @@
 -- How the own entries of a call that waits add up.
-use Rattle.std.proofs.Common.{◌≡◌, ℕ, ◌+◌, Bool, true, false, true≢false, add-zero, List, [], ◌∷◌, ◌++◌, length, length-append, refl, sym, ap, ◌∙◌, subst, replicate, zero, suc, arith, append-nil, inr}
+use Rattle.std.proofs.Common.{◌≡◌, ℕ, ◌+◌, Bool, true, false, List, [], ◌∷◌, ◌++◌, length, length-append, refl, sym, ap, ◌∙◌, subst, replicate, zero, suc, append-nil, inr}
 use Rattle.ho_base.specs.Marks.{Mark}
 use Rattle.ho_model.specs.declared.marks.EntryMark.{EntryMark}
 use Rattle.ho_model.specs.declared.marks.CallMark.{CallMark}
@@ -14,6 +14,7 @@ use Rattle.passes.proofs.Calls.{same_pass, same_on, own_before, own_entry, own_t
 use Rattle.turn_lock.specs.Passes.{LockPass}
 use Rattle.turn_lock.specs.Calls.{Makes}
 use Rattle.cancel_flag.specs.Seen.{Token}
+use Rattle.cancel_flag.proofs.Looks.{no_look, looks_again, looks_out}
 use Rattle.wait_loop.specs.Standing.{StaysOpen, IsAnswer, IsEnd}
 use Rattle.wait_loop.specs.Own.{raised_by, MakesAll, last_call, standing_polls, polls_and_last, WaitsOut, PollsOut}
 use Rattle.wait_loop.specs.Loops.{Polls, PollsUnset, PollsToAnswer, PollsToEnd}
@@ -26,14 +27,6 @@ replicate-push e (suc k) = ap (λ (l : List EntryMark). e ∷ l) (replicate-push
 length-replicate : (e : EntryMark) (k : ℕ) → length (replicate k e) ≡ k
 length-replicate e zero = refl
 length-replicate e (suc k) = ap suc (length-replicate e k)
-
-token_is : (t u : Token) → u.word ≡ t.word → u.looks ≡ t.looks → u.seen ≡ t.seen → u ≡ t
-token_is t u word looks seen = λ i. record { word = word i; looks = looks i; seen = seen i }
-
--- what a look that read 0 tells of what was seen before
-had_not : (b : Bool) → (b ≡ true → false ≡ true) → b ≡ false
-had_not true h = absurd (true≢false (sym (h refl)))
-had_not false h = refl
 
 own_nothing : (p : LockPass) → SeesOwn p.held p.seen [] p.seen
 own_nothing p = ([], sym (append-nil p.seen), refl)
@@ -62,8 +55,7 @@ module _ (Awaits : LockPass → CallMark → ℕ → Type 0) where
   unset_start p number t own = record {
     count = 0;
     polls = polls_start p number own;
-    looked = λ i. record t { looks = sym (add-zero t.looks) i };
-    unseen = λ h. absurd (omega arith);
+    looked = no_look t;
   }
 
   module _ (priority : Mark → ℕ) (p q r : LockPass) (number count : ℕ) (a : Polls Awaits p q number count) (same : IsSamePass q r) where
@@ -92,38 +84,21 @@ module _ (Awaits : LockPass → CallMark → ℕ → Type 0) where
 
   -- one look more at the token, which was u and is v
   module _ (priority : Mark → ℕ) (p q r : LockPass) (number : ℕ) (t u v : Token) (a : PollsUnset Awaits p q number t u) (same : IsSamePass q r) (look : v ≡ record u { looks = u.looks + 1; seen = v.seen }) (for_good : u.seen ≡ true → v.seen ≡ true) where
-    word : v.word ≡ t.word
-    word = ap (λ (k : Token). k.word) look ∙ ap (λ (k : Token). k.word) a.looked
-
-    looks_more : v.looks ≡ t.looks + suc a.count
-    looks_more =
-        let last : v.looks ≡ u.looks + 1 = ap (λ (k : Token). k.looks) look in
-        let before : u.looks ≡ t.looks + a.count = ap (λ (k : Token). k.looks) a.looked in
-        omega arith
-
     pub unset_on : v.seen ≡ false → Makes priority q (Poll number) (Waiting number) r → StaysOpen Awaits q r number → PollsUnset Awaits p r number t v
-    unset_on unset one stays =
-        let unseen : t.seen ≡ false = ap (λ (k : Token). k.seen) (sym a.looked) ∙ had_not u.seen (λ e. sym unset ∙ for_good e) in
-        record {
-          count = suc a.count;
-          polls = polls_on priority p q r number a.count a.polls same one stays;
-          looked = token_is (record t { looks = t.looks + suc a.count }) v word looks_more (unset ∙ sym unseen);
-          unseen = λ h. unseen;
-        }
+    unset_on unset one stays = record {
+      count = suc a.count;
+      polls = polls_on priority p q r number a.count a.polls same one stays;
+      looked = looks_again t u v a.count a.looked v.seen look for_good unset;
+    }
 
     pub unset_end : (Answers GivesUp : CallMark → ReplyMark → Type 0) (m : ReplyMark) → Makes priority q (last_call v.seen number) m r → IsEnd Awaits Answers GivesUp q number m
         → PollsToEnd Awaits priority Answers GivesUp p r number t v m
-    unset_end Answers GivesUp m one end =
-        let more = looks_more in
-        record {
-          count = a.count;
-          all = then_one priority p q r number a.count a.polls same (last_call v.seen number) m one;
-          looked = record {
-            looked = token_is (record t { looks = t.looks + (a.count + 1); seen = v.seen }) v word (omega arith) refl;
-            unseen = a.unseen;
-          };
-          end = λ b w. end b (a.polls.stays b w);
-        }
+    unset_end Answers GivesUp m one end = record {
+      count = a.count;
+      all = then_one priority p q r number a.count a.polls same (last_call v.seen number) m one;
+      looked = looks_out t u v a.count a.looked v.seen look;
+      end = λ b w. end b (a.polls.stays b w);
+    }
 
 module _ (Awaits : LockPass → CallMark → ℕ → Type 0) (Answers GivesUp : CallMark → ReplyMark → Type 0) (priority : Mark → ℕ) (begin : CallMark) (p q : LockPass) (same : IsSamePass p q) (m : ReplyMark) where
   -- the begin's entry, and then those of the loop

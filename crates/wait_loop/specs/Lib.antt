@@ -6,3 +6,4 @@ pub use Rattle.turn_lock.specs.Calls
 pub use Rattle.turn_lock.specs.Passes
 pub use Rattle.turn_lock.specs.PassCalls
 pub use Rattle.cancel_flag.specs.Seen
+pub use Rattle.cancel_flag.specs.Looks

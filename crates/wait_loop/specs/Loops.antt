@@ -1,5 +1,5 @@
 -- What the loops leave: p before, and q after.
-use Rattle.std.specs.Prelude.{◌≡◌, ℕ, ◌+◌, ◌<◌, false}
+use Rattle.std.specs.Prelude.{◌≡◌, ℕ, suc, false}
 use Rattle.ho_base.specs.Marks.{Mark}
 use Rattle.ho_model.specs.declared.marks.CallMark.{CallMark}
 use Rattle.ho_model.specs.declared.marks.ReplyMark.{ReplyMark}
@@ -7,8 +7,9 @@ use Rattle.passes.specs.Seen.{SeesOwn}
 use Rattle.passes.specs.Calls.{IsSamePass}
 use Rattle.turn_lock.specs.Passes.{LockPass}
 use Rattle.cancel_flag.specs.Seen.{Token}
+use Rattle.cancel_flag.specs.Looks.{LooksInVain, LooksOut}
 use Rattle.wait_loop.specs.Standing.{StaysOpen, IsAnswer, IsEnd}
-use Rattle.wait_loop.specs.Own.{raised_by, standing_polls, polls_and_last, LooksOut, MakesAll}
+use Rattle.wait_loop.specs.Own.{raised_by, standing_polls, polls_and_last, MakesAll}
 
 module _ (Awaits : LockPass → CallMark → ℕ → Type 0) where
   -- the caller polled its wait so many times, and it stands
@@ -23,8 +24,7 @@ module _ (Awaits : LockPass → CallMark → ℕ → Type 0) where
   pub record PollsUnset (p q : LockPass) (number : ℕ) (t u : Token) : Type 0 where
     pub count : ℕ
     pub polls : Polls p q number count
-    pub looked : u ≡ record t { looks = t.looks + count }
-    pub unseen : 0 < count → t.seen ≡ false
+    pub looked : LooksInVain count t u
 
   module _ (priority : Mark → ℕ) (Answers : CallMark → ReplyMark → Type 0) where
     -- and then the poll came that had the answer r
@@ -37,5 +37,5 @@ module _ (Awaits : LockPass → CallMark → ℕ → Type 0) where
     pub record PollsToEnd (GivesUp : CallMark → ReplyMark → Type 0) (p q : LockPass) (number : ℕ) (t u : Token) (r : ReplyMark) : Type 0 where
       pub count : ℕ
       pub all : MakesAll priority p (polls_and_last p.caller number count u.seen r) q
-      pub looked : LooksOut count t u
+      pub looked : LooksOut (suc count) t u
       pub end : IsEnd Awaits Answers GivesUp p number r

@@ -1,5 +1,5 @@
 -- The own entries of calls that wait, and the looks at their token.
-use Rattle.std.specs.Prelude.{◌≡◌, ℕ, ◌+◌, ◌<◌, ◌++◌, ◌⊎◌, List, [], ◌∷◌, Bool, true, false, length, replicate, slice_index, slice_set}
+use Rattle.std.specs.Prelude.{◌≡◌, ℕ, suc, ◌+◌, ◌++◌, ◌⊎◌, List, [], ◌∷◌, Bool, true, false, length, replicate, slice_index, slice_set}
 use Rattle.ho_base.specs.Marks.{Mark}
 use Rattle.ho_model.specs.declared.marks.EntryMark.{EntryMark}
 use Rattle.ho_model.specs.declared.marks.CallMark.{CallMark}
@@ -11,6 +11,7 @@ use Rattle.passes.specs.Calls.{AddsOwn}
 use Rattle.turn_lock.specs.Passes.{LockPass}
 use Rattle.turn_lock.specs.Calls.{Makes, HasNoCallLeft}
 use Rattle.cancel_flag.specs.Seen.{Token}
+use Rattle.cancel_flag.specs.Looks.{LooksOut}
 
 -- n calls more of the caller c are counted
 abbrev pub raised_by : List ℕ → ℕ → ℕ → List ℕ
@@ -36,12 +37,6 @@ standing_polls caller number count = replicate count (entry caller (Poll number)
 abbrev pub polls_and_last : ℕ → ℕ → ℕ → Bool → ReplyMark → List EntryMark
 polls_and_last caller number count seen r = standing_polls caller number count ++ entry caller (last_call seen number) r ∷ []
 
--- So many looks at a token, and one look more. If there was one before that last, the token had not seen
--- 1 before them all. t is the token before them, and u afterwards.
-pub record LooksOut (count : ℕ) (t u : Token) : Type 0 where
-  pub looked : u ≡ record t { looks = t.looks + (count + 1); seen = u.seen }
-  pub unseen : 0 < count → t.seen ≡ false
-
 module _ (priority : Mark → ℕ) (begin : CallMark) (p q : LockPass) (r : ReplyMark) where
   module _ (t u : Token) where
     -- the begin answered, and the token was not looked at
@@ -56,7 +51,7 @@ module _ (priority : Mark → ℕ) (begin : CallMark) (p q : LockPass) (r : Repl
       pub number : ℕ
       pub count : ℕ
       pub all : MakesAll priority p (entry p.caller begin (Waiting number) ∷ polls_and_last p.caller number count u.seen r) q
-      pub looked : LooksOut count t u
+      pub looked : LooksOut (suc count) t u
 
     -- what a call that waits adds, from a begin to its end by r
     abbrev pub WaitsOut : Type 0

@@ -5,10 +5,11 @@
 //! [`wait_out_without_token`] polls it alone. An object says by [`Waits`] how its waits are polled and
 //! given up.
 //!
-//! It stands on `turn_lock` for what a call leaves of a pass, on `cancel_flag` for the token, and on
-//! `pauses`. It promises upward which own entries a call that waits adds, that each is one counted
-//! call, and which looks at the token it takes (`specs/Own.antt`). It has no tests of its own, since a
-//! [`Waits`] wants a whole object: those of the objects above call both loops.
+//! It stands on `turn_lock` for what a call leaves of a pass, on `cancel_flag` for the token and for
+//! the words of what looks at it leave, and on `pauses`. It promises upward which own entries a call that
+//! waits adds, that each is one counted call, and which looks at the token it takes (`specs/Own.antt`). It
+//! has no tests of its own, since a [`Waits`] wants a whole object: those of the objects above call both
+//! loops.
 #![tactic(auto)]
 
 mod loops;
