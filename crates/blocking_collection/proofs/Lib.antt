@@ -1,4 +1,3 @@
-pub mod Looks
 pub mod Doing
 pub mod Places
 pub mod Trying

@@ -6,21 +6,15 @@ use Rattle.std.proofs.Math.ListN.{length-append}
 use Rattle.atomic_table.specs.Seated.{TableId}
 use Rattle.ho_base.specs.Marks.{Mark}
 use Rattle.turn_lock.specs.Passes.{LockPass}
-use Rattle.blocking_collection.specs.Own.{OwnCall, times}
 use Rattle.cancel_flag.specs.Seen.{Token}
-use Rattle.blocking_collection.specs.Looks.{LooksInVain, SeesAtLast}
+use Rattle.cancel_flag.specs.Looks.{LooksInVain, SeesAtLast}
+use Rattle.cancel_flag.proofs.Looks.{no_look, looks_again, sees_at_last}
+use Rattle.blocking_collection.specs.Own.{OwnCall, times}
 use Rattle.blocking_collection.specs.Tries.{Tries, Stops}
 use Rattle.blocking_collection.specs.Several.{AllOf, AllDid, no_item, no_items}
 use Rattle.blocking_collection.specs.SeveralWaits.{SomeEmpty, Takes, StopsTaking}
-use Rattle.blocking_collection.proofs.Looks.{no_look, looks_again, sees_at_last}
 use Rattle.blocking_collection.proofs.Doing.{same_table}
 use Rattle.blocking_collection.proofs.Places.{all_on, all_same}
-
-times_more : (n : ℕ) (ds : List OwnCall) → times (n + 1) ds ≡ times n ds ++ ds
-times_more n ds = ap (λ (k : ℕ). times k ds) one
-  where
-    one : n + 1 ≡ suc n
-    one = omega arith
 
 module _ (again : List OwnCall) (t : Token) where
   pub start : (A : List OwnCall → Type 0) → A [] → Tries again A t t
@@ -30,14 +24,11 @@ module _ (again : List OwnCall) (t : Token) where
     pub ends : ((b : List OwnCall) → A b → B b) → Tries again B t u
     ends on = record { rounds = before.rounds; looked = before.looked; then = on (times before.rounds again) before.then }
 
-    round_more : ((b : List OwnCall) → A b → B (b ++ again)) → B (times (before.rounds + 1) again)
-    round_more on = subst B (sym (times_more before.rounds again)) (on (times before.rounds again) before.then)
-
     pub more : (v : Token) → v ≡ record u { looks = u.looks + 1; seen = false } → (u.seen ≡ true → IsTrue false) → ((b : List OwnCall) → A b → B (b ++ again)) → Tries again B t v
-    more v look for_good on = record { rounds = before.rounds + 1; looked = looks_again t u v before.rounds before.looked look for_good; then = round_more on }
+    more v look for_good on = record { rounds = suc before.rounds; looked = looks_again t u v before.rounds before.looked false look for_good refl; then = on (times before.rounds again) before.then }
 
     pub stops : (v : Token) → v ≡ record u { looks = u.looks + 1; seen = true } → ((b : List OwnCall) → A b → B (b ++ again)) → Stops again B t v
-    stops v look on = record { rounds = before.rounds + 1; looked = sees_at_last t u v before.rounds before.looked look; then = round_more on }
+    stops v look on = record { rounds = suc before.rounds; looked = sees_at_last t u v before.rounds before.looked true look refl; then = on (times before.rounds again) before.then }
 
 -- a token is not looked at where there is no member
 pub not_looked : (t u : Token) (n : ℕ) → (u ≡ t) ⊎ (0 < n) → n ≡ 0 → u ≡ t
@@ -68,8 +59,8 @@ module _ (n : ℕ) (t : Token) where
     take_ends on = record { rounds = before.rounds; some_empty = before.some_empty; looked = before.looked; then = on before.rounds before.then }
 
     module _ (f : ℕ → Bool) (e : SomeEmpty n f) (v : Token) where
-      one_more : length before.rounds + 1 ≡ length (before.rounds ++ f ∷ [])
-      one_more = sym (length-append before.rounds (f ∷ []))
+      one_more : suc (length before.rounds) ≡ length (before.rounds ++ f ∷ [])
+      one_more = let grown = length-append before.rounds (f ∷ []) in omega arith
 
       all_more : All (SomeEmpty n) (before.rounds ++ f ∷ [])
       all_more = All-append (SomeEmpty n) before.rounds (f ∷ []) before.some_empty (All-cons (SomeEmpty n) f [] e (All-nil (SomeEmpty n)))
@@ -78,7 +69,7 @@ module _ (n : ℕ) (t : Token) where
       take_more look for_good on = record {
         rounds = before.rounds ++ f ∷ [];
         some_empty = all_more;
-        looked = subst (λ (k : ℕ). LooksInVain k t v) one_more (looks_again t u v (length before.rounds) before.looked look for_good);
+        looked = subst (λ (k : ℕ). LooksInVain k t v) one_more (looks_again t u v (length before.rounds) before.looked false look for_good refl);
         then = on before.rounds before.then;
       }
 
@@ -86,6 +77,6 @@ module _ (n : ℕ) (t : Token) where
       take_stops look on = record {
         rounds = before.rounds ++ f ∷ [];
         some_empty = all_more;
-        looked = subst (λ (k : ℕ). SeesAtLast k t v) one_more (sees_at_last t u v (length before.rounds) before.looked look);
+        looked = subst (λ (k : ℕ). SeesAtLast k t v) one_more (sees_at_last t u v (length before.rounds) before.looked true look refl);
         then = on before.rounds before.then;
       }

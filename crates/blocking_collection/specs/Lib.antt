@@ -1,6 +1,5 @@
 pub mod Singles
 pub mod Own
-pub mod Looks
 pub mod Tries
 pub mod Waits
 pub mod Several
@@ -19,3 +18,4 @@ pub use Rattle.turn_lock.specs.Calls as LockCalls
 pub use Rattle.blocking_core.specs.Calls
 pub use Rattle.blocking_core.specs.Kept
 pub use Rattle.cancel_flag.specs.Seen as Tokens
+pub use Rattle.cancel_flag.specs.Looks

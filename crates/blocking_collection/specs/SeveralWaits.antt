@@ -3,13 +3,13 @@ use Rattle.std.specs.Prelude.{◌≡◌, ℕ, ◌<◌, List, [], ◌∷◌, Resu
 use Rattle.ho_base.specs.Marks.{Mark}
 use Rattle.ho_base.specs.declared.memory.Unpaid.{Unpaid}
 use Rattle.cancel_flag.specs.Seen.{Token}
+use Rattle.cancel_flag.specs.Looks.{LooksInVain, SeesAtLast}
 use Rattle.turn_lock.specs.Passes.{LockPass}
 use Rattle.blocking_collection.specs.declared.any_add.AnyAdd.{AnyAdd}
 use Rattle.blocking_collection.specs.declared.any_add.AnyAdd.TheVariants as add
 use Rattle.blocking_collection.specs.declared.any_take.AnyTake.{AnyTake}
 use Rattle.blocking_collection.specs.declared.any_take.AnyTake.TheVariants as take
 use Rattle.blocking_collection.specs.Own.{OwnCall}
-use Rattle.blocking_collection.specs.Looks.{LooksInVain, SeesAtLast}
 use Rattle.blocking_collection.specs.Tries.{Tries, Stops}
 use Rattle.blocking_collection.specs.Several.{AllDid, NoneThere, TriedAdd, TriedTake, no_items, still_open, full}
 

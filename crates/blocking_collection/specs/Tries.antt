@@ -1,8 +1,8 @@
 -- Tries that are repeated while a token is looked at. t is the token before, and u afterwards.
 use Rattle.std.specs.Prelude.{ℕ, List}
 use Rattle.cancel_flag.specs.Seen.{Token}
+use Rattle.cancel_flag.specs.Looks.{LooksInVain, SeesAtLast}
 use Rattle.blocking_collection.specs.Own.{OwnCall, times}
-use Rattle.blocking_collection.specs.Looks.{LooksInVain, SeesAtLast}
 
 -- So many rounds that ended nothing, with one look at the token after each, none of which saw 1; and
 -- then what holds of the calls of these rounds.

@@ -15,10 +15,10 @@
 //! succeeds.
 //!
 //! It stands on `blocking_core` for the machine, on `turn_lock` for the sharing and on `cancel_flag`
-//! for the tokens. It promises upward that each single call adds to what its pass has seen entries of
-//! other callers and then its own entry; which calls the ones that try again have made, with which
-//! replies, how they are counted and how often the token was looked at; and that all that is seen is
-//! legal for the collection.
+//! for the tokens and for the words of what looks at them leave. It promises upward that each single call
+//! adds to what its pass has seen entries of other callers and then its own entry; which calls the ones
+//! that try again have made, with which replies, how they are counted and how often the token was looked
+//! at; and that all that is seen is legal for the collection.
 #![tactic(auto)]
 
 mod any_add;
