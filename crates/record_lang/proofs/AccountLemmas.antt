@@ -41,7 +41,7 @@ removed-number : (at : ℕ) (found : Option (List ℕ)) (j : ℕ) (row : Row) �
 removed-number at None j row = refl
 removed-number at (Some field) j row = with_fields-number (remove row.fields at) j row
 
-stage-number : (s : Stage) (j : ℕ) (row : Row) → number_of_outcome (stage_outcome s j row) ≡ row.number
+pub stage-number : (s : Stage) (j : ℕ) (row : Row) → number_of_outcome (stage_outcome s j row) ≡ row.number
 stage-number (stage.Keep f relation n) j row = kept-number _ j row
 stage-number (stage.Match f text) j row = kept-number _ j row
 stage-number (stage.Add f n) j row = replaced-number f _ j row

@@ -1,0 +1,6 @@
+pub mod Weights
+pub mod Permutations
+pub mod Parting
+pub mod Joints
+pub mod Reaching
+pub mod Outcomes
