@@ -12,8 +12,8 @@
 //! on `itoa` for digits and on `smallvec` for fields, of which most are short.
 //!
 //! Want of memory is the one free answer: a `Field::new`, a `Stages` that takes no stage, a
-//! `Report::push_dropped`, a `Report::text` or a `one_thread_text` that always gave it would be proved, so
-//! tests call each with ample memory.
+//! `Report::push_dropped`, a `Report::text`, a `counts_text` or a `one_thread_text` that always gave it
+//! would be proved, so tests call each with ample memory.
 #![tactic(auto)]
 
 mod causes;
@@ -47,7 +47,7 @@ pub use reports::{Dropped, Report};
 pub use rows::{InputFault, read_records};
 pub use stages::Stages;
 pub use text_rows::row_line;
-pub use texts::one_thread_text;
+pub use texts::{FedRows, counts_text, one_thread_text, rows_to_feed};
 
 #[cfg(test)]
 mod tests;

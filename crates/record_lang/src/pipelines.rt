@@ -136,11 +136,12 @@ impl Pipeline {
         }
     }
 
-    /// How many stages there are, from 1 to 8.
+    /// How many stages there are, from 1 to 8. Each has a joint that can be built.
     pub fn stages(&self) -> u32
         ensures count { result ≡ length self.now.stages }
         ensures some { 1 ≤ result }
         ensures few { result ≤ 8 }
+        ensures joints { HasJoints self.now.stages self.now.joints }
     {
         self.stages.len() as u32
     }
@@ -153,6 +154,13 @@ impl Pipeline {
         ensures buildable { IsBuildable result }
     {
         self.joints[stage as usize - 1]
+    }
+
+    /// The joints, in order of the stages that they feed.
+    pub fn joints(&self) -> &[Joint]
+        ensures { result.now ≡ self.now.joints }
+    {
+        &self.joints
     }
 
     /// The code with which a run ends that meets the guard. None exactly where there is no guard.

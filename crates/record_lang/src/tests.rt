@@ -364,9 +364,20 @@ fn a_pipeline_by_hand(rt: HostRuntime) -> Result<(), Fail> {
     if pipeline.stages() == 3 {
         assert_eq!(rt; pipeline.joint(2), Joint::Unbounded);
     }
+    assert_eq!(rt; pipeline.joints().len(), 3);
     let records = read_records(alloc, b"838,0\n758,1\n113,2\n0,x\n")?;
     let text = one_thread_text(alloc, &pipeline, records)?;
     let want = b"result,0,2529,0\nresult,1,2289,1\ncounts,3,2,0,1\nending,guard,9\n";
+    assert_eq!(rt; text.bytes(), want.as_slice());
+    Ok(())
+}
+
+#[test]
+fn counts_and_a_row(rt: HostRuntime) -> Result<(), Fail> {
+    let outcomes = vec![in rt.alloc(); Outcome::Filtered { number: 7 }]?;
+    let fields = [b"sum".as_slice(), b"a,b".as_slice()];
+    let text = counts_text(rt.alloc(), &outcomes, &fields)?;
+    let want = b"counts,1,0,0,1\nsum,\"a,b\"\nending,done\n";
     assert_eq!(rt; text.bytes(), want.as_slice());
     Ok(())
 }
