@@ -1,7 +1,7 @@
 -- What a call that waits adds to the weights of its pass's own entries.
-use Rattle.std.specs.Prelude.{ℕ, List, [], ◌∷◌, ◌++◌, Bool, false, true, cond, replicate, zero, suc, Option, Some, slice_get}
+use Rattle.std.specs.Prelude.{ℕ, List, [], ◌∷◌, ◌++◌, Bool, false, true, cond, replicate, zero, suc, Some, slice_get}
 use Rattle.std.specs.List.{sum_by}
-use Rattle.std.proofs.Common.{◌≡◌, refl, ap, sym, ◌∙◌, subst, ◌+◌, arith, inl, inr}
+use Rattle.std.proofs.Common.{◌≡◌, refl, ap, ◌∙◌, subst, ◌+◌, arith, inl, inr}
 use Rattle.std.proofs.lemmas.Option.{same_Some}
 use Rattle.std.proofs.lemmas.List.Sums.{sum_by-cons, sum_by-append, sum_by_push}
 use Rattle.ho_base.specs.Marks.{Mark, number_of}
@@ -25,7 +25,7 @@ use Rattle.record_lang.specs.Records.{Row}
 use Rattle.wait_loop.specs.Own.{standing_polls, polls_and_last, PollsOut}
 use Rattle.channel_flow.specs.Items.{written_in, taken_in, dropped_in, refused_in, given_back_in, gives, loses, weight}
 use Rattle.channel_flow.specs.Ends.{is_begun, is_finished, is_closed_reply, is_closed, is_closed_reply_with, is_closed_with, is_completing}
-use Rattle.stage_pipeline.specs.Works.{weighs, counts, lost_by, Sends, Takes}
+use Rattle.stage_pipeline.specs.Works.{weighs, lost_by, Sends, Takes}
 
 none_weigh : (f : EntryMark → ℕ) (e : EntryMark) → f e ≡ 0 → (k : ℕ) → sum_by f (replicate k e) ≡ 0
 none_weigh f e z zero = refl

@@ -53,7 +53,7 @@ module _ (priority : Mark → ℕ) (o : Object) (n : ℕ) (writers : List Bool) 
   shape = j.first.1 ∙ (ap (λ (l : List EntryMark). l ++ rest) j.completes.1 ∙ append_assoc j.front (last_entry ∷ []) rest)
 
   -- the weight of all entries
-  total : (f : EntryMark → ℕ) → sum_by f all ≡ tally f writers wrote + f last_entry + tally f readers read
+  pub total : (f : EntryMark → ℕ) → sum_by f all ≡ tally f writers wrote + f last_entry + tally f readers read
   total f =
       let parts = two_parts f n writers readers all j.whole j.apart j.lawful.1 in
       let mine = ap (sum_by f) (own_of-sees writers j.completed all j.first) in
@@ -95,6 +95,9 @@ module _ (priority : Mark → ℕ) (o : Object) (n : ℕ) (writers : List Bool) 
         let d = q.uncompleting in
         omega arith
 
+    pub fault_is_first : first_fault all ≡ Some fault
+    fault_is_first = ap first_fault shape ∙ first_fault-at j.front rest caller fault (Flag set) front_uncompleted
+
     -- nothing is refused: not before the completion, and the writers made no call after it
     unrefused : (h : Mark → ℕ) → sum_by (weight h refused_in) all ≡ 0
     unrefused h =
@@ -131,8 +134,7 @@ module _ (priority : Mark → ℕ) (o : Object) (n : ℕ) (writers : List Bool) 
     tells_fault told some =
         let c = total (λ e. cond (is_closed_with told e) 1 0) in
         let law = one_fault_is_told priority o all told (j.room, j.lawful.0) (omega arith) in
-        let at = ap first_fault shape ∙ first_fault-at j.front rest caller fault (Flag set) front_uncompleted in
-        let same : Some told ≡ Some fault = sym law ∙ at in
+        let same : Some told ≡ Some fault = sym law ∙ fault_is_first in
         cc
 
 pub joints_add_up : JointsAddUp

@@ -1,3 +1,15 @@
 pub mod Joining
 pub mod Adding
 pub mod Turns
+pub mod OneJoint
+pub mod AllJoints
+pub mod Telling
+pub mod Feeding
+pub mod Seating
+pub mod OrderLemmas
+pub mod TellLemmas
+pub mod SummaryLemmas
+pub mod Starting
+pub mod Gathering
+pub mod Handing
+pub mod EndsOfCrews

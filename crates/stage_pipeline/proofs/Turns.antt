@@ -1,5 +1,5 @@
 -- The turns of a worker.
-use Rattle.std.specs.Prelude.{ℕ, List, [], ◌∷◌, ◌++◌, Bool, false, true, cond, Option, None, Some, IfSome}
+use Rattle.std.specs.Prelude.{ℕ, List, [], ◌∷◌, ◌++◌, Bool, cond, Option, None, Some, IfSome}
 use Rattle.std.specs.List.{sum_by}
 use Rattle.std.proofs.Common.{◌≡◌, refl, ap, sym, ◌∙◌, subst, ◌+◌, ◌<◌, arith}
 use Rattle.std.proofs.lemmas.Bool.{eq-eqb}
@@ -10,7 +10,7 @@ use Rattle.ho_model.specs.declared.marks.ReplyMark.TheVariants.{Item, ClosedWith
 use Rattle.passes.specs.Seen.{own_of}
 use Rattle.passes.specs.Calls.{IsSamePass}
 use Rattle.turn_lock.specs.Passes.{LockPass}
-use Rattle.record_lang.specs.Marks.{mark_of, row_of_mark}
+use Rattle.record_lang.specs.Marks.{mark_of}
 use Rattle.record_lang.specs.Outcomes.{stage_outcome}
 use Rattle.record_lang.specs.Records.{Row}
 use Rattle.record_lang.specs.declared.outcomes.Outcome.{Outcome}
@@ -21,7 +21,8 @@ use Rattle.channel_flow.specs.Items.{written_in, taken_in, weight}
 use Rattle.channel_flow.specs.Ends.{is_closed, is_closed_with}
 use Rattle.stage_pipeline.specs.declared.workers.Turn.{Turn}
 use Rattle.stage_pipeline.specs.declared.workers.Turn.TheVariants.{More, Ended, GaveUp}
-use Rattle.stage_pipeline.specs.Works.{weighs, counts, weighs_to, counts_to, is_last, says, made_of_row, on_weight, off_weight, goes, ends, lost_by, WorksOff, KeepsPlaceTo, Sends, PassesOn, Takes, IfMore, IsNewTo, KeepsPlace}
+use Rattle.joint_reports.specs.Through.{says, made_of_row, on_weight, off_weight, goes, ends}
+use Rattle.stage_pipeline.specs.Works.{weighs, counts, weighs_to, counts_to, is_last, WorksOff, KeepsPlaceTo, Sends, PassesOn, Takes, IfMore, IsNewTo, KeepsPlace}
 
 -- 1. The same place
 

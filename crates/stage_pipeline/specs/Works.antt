@@ -1,17 +1,13 @@
 -- What a worker does by its two passes.
-use Rattle.std.specs.Prelude.{◌≡◌, ℕ, ◌+◌, List, [], Bool, true, false, cond, Option, None, Some, sum_by, if◌then◌else◌}
+use Rattle.std.specs.Prelude.{◌≡◌, ℕ, ◌+◌, List, [], Bool, true, false, cond, Option, None, Some, sum_by}
 use Rattle.ho_base.specs.Marks.{Mark, number_of}
 use Rattle.ho_model.specs.declared.marks.EntryMark.{EntryMark}
 use Rattle.ho_model.specs.declared.marks.ReplyMark.{ReplyMark}
 use Rattle.turn_lock.specs.Passes.{LockPass}
-use Rattle.record_lang.specs.Marks.{mark_of, row_of_mark}
-use Rattle.record_lang.specs.Outcomes.{stage_outcome}
-use Rattle.record_lang.specs.Records.{Row}
 use Rattle.record_lang.specs.declared.outcomes.Outcome.{Outcome}
-use Rattle.record_lang.specs.declared.outcomes.Outcome.TheVariants as to
-use Rattle.record_lang.specs.declared.pipelines.Stage.{Stage}
 use Rattle.channel_flow.specs.Items.{written_in, taken_in, dropped_in, refused_in, given_back_in, gives, weight}
 use Rattle.channel_flow.specs.Ends.{is_begun, is_finished, is_closed_reply_with, is_closed_with, is_closed_reply, is_closed, is_completing}
+use Rattle.joint_reports.specs.Through.{goes, ends}
 use Rattle.stage_pipeline.specs.Joints.{tally, tally_of}
 use Rattle.stage_pipeline.specs.declared.workers.Turn.{Turn}
 use Rattle.stage_pipeline.specs.declared.workers.Turn.TheVariants.{More, Ended, GaveUp}
@@ -36,31 +32,6 @@ counts_to p (Some pass) = counts p pass
 abbrev pub is_last : Option LockPass → Bool
 is_last None = true
 is_last (Some p) = false
-
--- what stage j makes of the record of a mark
-abbrev pub made_of_row : Stage → ℕ → Option Row → Outcome
-made_of_row what j None = to.Filtered 0
-made_of_row what j (Some row) = stage_outcome what j row
-
-abbrev pub says : Stage → ℕ → Mark → Outcome
-says what j m = made_of_row what j (row_of_mark m)
-
--- what goes on from a stage weighs, and what ends there; at the last stage all ends
-abbrev pub on_weight : (Mark → ℕ) → Outcome → ℕ
-on_weight h (to.Result row) = h (mark_of row)
-on_weight h (to.Refused number stage cause) = 0
-on_weight h (to.Filtered number) = 0
-
-abbrev pub off_weight : (Outcome → ℕ) → Outcome → ℕ
-off_weight k (to.Result row) = 0
-off_weight k (to.Refused number stage cause) = k (to.Refused number stage cause)
-off_weight k (to.Filtered number) = k (to.Filtered number)
-
-abbrev pub goes : Bool → (Mark → ℕ) → Outcome → ℕ
-goes last h o = cond last 0 (on_weight h o)
-
-abbrev pub ends : Bool → (Outcome → ℕ) → Outcome → ℕ
-ends last k o = cond last (k o) (off_weight k o)
 
 -- what entries weigh whose item is dropped, by the items' numbers
 abbrev pub lost_by : (ℕ → ℕ) → EntryMark → ℕ

@@ -1,29 +1,51 @@
-//! What pipelines that run on many threads stand on: inputs that are made from a number, and what a joint
-//! between two stages does.
+//! Pipelines that run on many threads: a feeder, a crew of workers for each stage, and between each two a
+//! channel, which is the joint that the pipeline names.
 //!
-//! - [`made_records`] makes large inputs.
-//! - [`a_joint_adds_up`] is the law of one joint, over the own entries of the pass that its writers
-//!   joined and of that which its readers joined (`specs/Joints.antt`).
-//! - `workers.rt` has one worker between two joints, which no public call starts yet: what it took it
-//!   wrote on, or keeps as an outcome, each once, with the number of each record that its writes dropped,
-//!   and it finished each of its waits.
+//! - [`run_pipeline`] runs a pipeline over records, and hands back its text and the whole pass of each joint
+//!   ([`Ran`], `specs/Runs.antt`). [`made_text`] does so for records that [`made_records`] makes from a
+//!   number, and tells their sums (`specs/Made.antt`).
+//! - [`a_joint_adds_up`] is the law of one joint, over the own entries of the pass that its writers joined
+//!   and of that which its readers joined (`specs/Joints.antt`).
+//!
+//! Within, from below: `workers.rt` has one worker between two joints, `seats.rt` all workers of a stage
+//! side by side, `crew.rt` what takes back what they leave and only then completes the next joint,
+//! `feeder.rt` what feeds the first joint, `flow.rt` all of these side by side, `starts.rt` the joints and
+//! their passes, `meeting.rt` what joins both passes of each joint, `meetings.rt` the law by which what they
+//! have seen tells the run, `reports.rt` and `summaries.rt` the texts. What a thread promises is equations of
+//! weights over its passes' own entries, which add up where passes are joined, whatever came first.
 //!
 //! It stands on `channel_wait` for reads and writes that wait, on `ho_io` for the gate, on `record_lang`
-//! for records and pipelines, on `passes` for what a joined pass has seen, and on `channel_flow` for the
-//! laws of items in channels. It promises upward which records a seed makes, and that a joint loses and
-//! doubles nothing whose writers completed it last, where both sides finished all waits and a read was told
-//! of the end. No worked history guards that law's premises yet.
+//! for records and pipelines, on `passes` for what a joined pass has seen, on `channel_flow` for the
+//! laws of items in channels, and on `joint_reports` for which records reach a joint. It promises upward that
+//! the text is the one-thread text where no joint may drop, and else that of the report which the joints
+//! tell; that the whole pass of each joint shows just the records that reach it, each written once, and
+//! dropped or taken once; and which records a seed makes.
 //!
-//! Want of memory is the one free answer: a `made_records` that always gave it would be proved, so tests
-//! call it with ample memory.
+//! No contract says that workers run side by side, that they pass the gate before each call on a joint
+//! and under which number, or that a run ends: tests do. No worked history guards the premises of the law of
+//! one joint. Want of memory is the one free answer: a `run_pipeline`, `made_text` or `made_records` that
+//! always gave it would be proved, so tests call each with ample memory.
 #![tactic(auto)]
 
+mod crew;
+mod feeder;
+mod flow;
 mod joints;
+mod kits;
 mod made;
+mod meeting;
+mod meetings;
+mod reports;
+mod runs;
+mod seats;
+mod sides;
+mod starts;
+mod summaries;
 mod workers;
 
 pub use joints::a_joint_adds_up;
 pub use made::made_records;
+pub use runs::{Ran, made_text, run_pipeline};
 
 #[cfg(test)]
 mod tests;

@@ -4,6 +4,8 @@ use record_lang::{Pipeline, one_thread_text, parse_pipeline};
 use std::alloc::Global;
 use std::test::Fail;
 
+mod running;
+
 const MADE: &[u8] = b"stage keep 0 ge 500\nstage add 0 5\nstage mul 0 3\n";
 
 // The text that one thread writes of the first 100 records of a seed.

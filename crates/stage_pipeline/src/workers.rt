@@ -6,7 +6,8 @@ ghost use Rattle.ho_base.specs.Marks.{Mark};
 ghost use Rattle.record_lang.specs.Marks.{mark_of};
 ghost use Rattle.record_lang.specs.declared.outcomes.Outcome.{Outcome};
 ghost use Rattle.record_lang.specs.declared.pipelines.Stage.{Stage};
-ghost use Rattle.stage_pipeline.specs.Works.{IfEnded, IfMore, IsNewTo, KeepsPlace, KeepsPlaceTo, PassesOn, Sends, WorksOff, counts, says};
+ghost use Rattle.joint_reports.specs.Through.{says};
+ghost use Rattle.stage_pipeline.specs.Works.{IfEnded, IfMore, IsNewTo, KeepsPlace, KeepsPlaceTo, PassesOn, Sends, WorksOff, counts};
 
 use channel_wait::{ReadEnd, WriteEnd, read_without_token, write_without_token};
 use channels::{ReadReply, Reader, Writer};

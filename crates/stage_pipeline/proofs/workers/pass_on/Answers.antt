@@ -1,6 +1,6 @@
 -- What becomes of a record.
-use Rattle.std.proofs.Common.{rules, refl, None, Some, ◌≡◌}
-use Rattle.stage_pipeline.proofs.Turns.{kept_off, kept_last, sent_as, if_more}
+use Rattle.std.proofs.Common.{rules, Some, ◌≡◌}
+use Rattle.stage_pipeline.proofs.Turns.{sent_as, if_more}
 use Rattle.stage_pipeline.proofs.workers.pass_on.Goals as goal
 
 pub returns-in-Result-clause-passed : goal.returns-in-Result-clause-passed

@@ -1,7 +1,4 @@
-use Rattle.std.proofs.Common.{rules}
 use Rattle.channel_wait.specs.declared.ends.WriteEnd.TheVariants.{Done, Dropped, Refused}
-use Rattle.channel_core.specs.Marks.{fault_number}
-use Rattle.record_lang.specs.Marks.{mark_of}
 use Rattle.stage_pipeline.proofs.Adding.{sent_by, done_is_written, dropped_is_written, refused_is_written, none_lost, one_lost}
 use Rattle.stage_pipeline.proofs.workers.send.Goals as goal
 

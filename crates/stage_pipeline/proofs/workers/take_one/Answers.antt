@@ -1,5 +1,4 @@
 -- What a read adds, and what is made of the record.
-use Rattle.std.proofs.Common.{rules, refl, ◌≡◌, ◌∙◌}
 use Rattle.channel_wait.specs.declared.ends.ReadEnd.TheVariants.{Item, Closed}
 use Rattle.stage_pipeline.proofs.Adding.{took_as}
 use Rattle.stage_pipeline.proofs.Turns.{keeps, keeps_same_to, if_more_all, turns_on, end_turn, item_untold, end_told, end_tells}

@@ -1,4 +1,4 @@
-use Rattle.stage_pipeline.specs.Works.{says}
+use Rattle.joint_reports.specs.Through.{says}
 use Rattle.stage_pipeline.proofs.Turns.{works_as}
 use Rattle.stage_pipeline.proofs.workers.work.Goals as goal
 

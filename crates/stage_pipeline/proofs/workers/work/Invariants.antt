@@ -1,7 +1,8 @@
 use Rattle.std.proofs.Common.{◌≡◌, ◌-◌, Some, slice_get}
 use Rattle.record_lang.specs.declared.pipelines.Stage.{Stage}
 use Rattle.channel_flow.specs.Ends.{is_closed}
-use Rattle.stage_pipeline.specs.Works.{KeepsPlace, KeepsPlaceTo, WorksOff, counts, says}
+use Rattle.joint_reports.specs.Through.{says}
+use Rattle.stage_pipeline.specs.Works.{KeepsPlace, KeepsPlaceTo, WorksOff, counts}
 use Rattle.stage_pipeline.proofs.workers.work.Given as goal
 
 abbrev pub invariant-loop : goal.invariant-loop

@@ -1,0 +1,22 @@
+use Rattle.std.proofs.Common.{List, Some, subst, sym}
+use Rattle.std.proofs.lemmas.Result.{IfOk-weaker}
+use Rattle.atomic_table.specs.Seated.{TableId}
+use Rattle.stage_pipeline.specs.Gathered.{AreEndsOf, Gathers}
+use Rattle.stage_pipeline.specs.Meetings.{HandsOn}
+use Rattle.stage_pipeline.proofs.Handing.{run_gathers, run_hands_on}
+use Rattle.stage_pipeline.proofs.runs.run_all.Goals as goal
+
+pub gather-requires-clause-ends : goal.gather-requires-clause-ends
+gather-requires-clause-ends g c =
+    let s = c.in_ok-joints.field-0 in
+    let flow = c.flow_all-flow.result in
+    let ends = run_gathers c.args.pipeline.now c.args.records c.args.workers s c.in_ok-ends.ends.items flow c.in_ok-ends.ensures.items c.in_ok-joints.ensures c.flow_all-flow.ensures.ends c.flow_all-flow.ensures.fed in
+    subst (λ (ts : List TableId). AreEndsOf ts (Some flow.fed.write) flow.ends.items) (sym c.deref-2.ensures.value) ends
+
+pub returns : goal.returns
+returns g c =
+    let s = c.in_ok-joints.field-0 in
+    let flow = c.flow_all-flow.result in
+    IfOk-weaker c.gather.result (Gathers flow) (HandsOn c.args.pipeline.now c.args.records c.args.workers)
+    (λ done h. run_hands_on c.args.pipeline.now c.args.records c.args.workers s c.in_ok-ends.ends.items flow c.in_ok-ends.ensures.items c.in_ok-joints.ensures c.flow_all-flow.ensures.ends c.flow_all-flow.ensures.fed done c.tell_built.ensures.joints h)
+    c.gather.ensures

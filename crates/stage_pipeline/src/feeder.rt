@@ -1,0 +1,58 @@
+// The feeder: it writes the records that are fed into the first joint, and completes it.
+ghost use Rattle.std.specs.Prelude.{◌≡◌, [], true};
+ghost use Rattle.stage_pipeline.specs.Crews.{FeederEnds, Feeds, IsNewAt};
+ghost use Rattle.stage_pipeline.specs.Works.{KeepsPlace};
+
+use crate::kits::{Feed, FeederEnd};
+use crate::sides::{complete, joint_of};
+use crate::workers::{Turn, send};
+use channels::{Channel, Writer};
+use record_lang::{FedRows, Pipeline, Record, rows_to_feed};
+use std::alloc::Global;
+use std::sync::Wait;
+
+// Writes the records in order, each once there is room, until one finds no memory.
+fn write_all<R: Wait>(
+    rt: &R,
+    rows: Vec<Record>,
+    writer: &mut Writer<'_, Record>,
+    lost: &mut Vec<u64>,
+) -> bool
+    requires { (writer.old.seen ≡ []) × (lost.old.items ≡ []) }
+    ensures same { KeepsPlace writer.old writer.new }
+    ensures fed { result ≡ true → Feeds rows.items writer.new lost.new.items }
+{
+    for row in rows {
+        match send(rt, writer, row, lost) {
+            Turn::More => {}
+            Turn::Ended(_) => return false,
+            Turn::GaveUp => return false,
+        }
+    }
+    true
+}
+
+/// Feeds the records before the first that meets the guard, or all, and completes the first joint, with
+/// the guard's code as fault where it was met. Without memory it completes the joint and stops.
+pub(crate) fn feed_all<R: Wait>(
+    rt: &R,
+    alloc: Global,
+    pipeline: &Pipeline,
+    joints: &[Channel<Record>],
+    feed: Feed,
+) -> FeederEnd
+    requires { IsNewAt joints.now 0 1 feed.write }
+    ensures { FeederEnds pipeline.now feed result }
+{
+    let Feed { records, write } = feed;
+    let FedRows { rows, code } = rows_to_feed(pipeline, records);
+    let joint = joint_of(joints, 0, &write);
+    let mut writer = Writer::new(joint, write);
+    let mut lost = Vec::new(alloc);
+    let whole = write_all(rt, rows, &mut writer, &mut lost);
+    FeederEnd {
+        write: complete(rt, joint, writer.into_pass(), code),
+        lost,
+        whole,
+    }
+}

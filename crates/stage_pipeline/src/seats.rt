@@ -1,0 +1,249 @@
+// The workers of a crew, side by side, and the passes that they share.
+ghost use Rattle.std.specs.Prelude.{◌≡◌, ℕ, ◌+◌, ◌-◌, ◌++◌, ◌≤◌, [], true, length, Some, slice_get};
+ghost use Rattle.std.specs.Thread.{IsSync};
+ghost use Rattle.turn_lock.specs.Passes.{LockPass};
+ghost use Rattle.stage_pipeline.specs.Crews.{IsNewAtTo};
+ghost use Rattle.stage_pipeline.specs.Seats.{AreOfTo, IsOfTo, IsSeat, JoinsTo, SeatEnds, SplitsSeat, SplitsTo, TakesIn, TellsFault};
+
+use crate::sides::joint_of;
+use crate::workers::{Job, WorkerEnd, work};
+use channels::{Channel, Reader, Writer};
+use ho_base::Fault;
+use ho_io::Gate;
+use record_lang::{Outcome, Pipeline, Record};
+use std::alloc::Global;
+use std::sync::Wait;
+use std::thread::{Threads, join};
+use turn_lock::Pass;
+
+/// What the workers of a stage are started with, one or several.
+#[derive(Drop)]
+pub(crate) struct Seat {
+    pub(crate) stage: u32,
+    /// The number of the first of them at the gate.
+    pub(crate) number: u32,
+    pub(crate) read: Pass,
+    pub(crate) write: Option<Pass>,
+}
+
+/// What they leave.
+#[derive(Drop)]
+pub(crate) struct SeatEnd {
+    pub(crate) read: Pass,
+    pub(crate) write: Option<Pass>,
+    /// The outcomes that ended at their stage.
+    pub(crate) over: Vec<Outcome>,
+    /// The numbers of the records that their writes dropped.
+    pub(crate) lost: Vec<u64>,
+    /// The fault that one of them read at the end of its joint.
+    pub(crate) fault: Option<Fault>,
+    /// They worked off all that they read. Else one found no memory.
+    pub(crate) whole: bool,
+}
+
+// A writer by a pass that is there.
+fn writer_of<'c>(
+    joints: &'c [Channel<Record>],
+    index: u32,
+    pass: Option<Pass>,
+) -> Option<Writer<'c, Record>>
+    requires { IsOfTo joints.now index pass }
+    ensures { result ≡ pass }
+{
+    let Some(pass) = pass else {
+        return None;
+    };
+    Some(Writer::new(joint_of(joints, index, &pass), pass))
+}
+
+fn into_pass(writer: Option<Writer<'_, Record>>) -> Option<Pass>
+    ensures { result ≡ writer.entry }
+{
+    let Some(writer) = writer else {
+        return None;
+    };
+    Some(writer.into_pass())
+}
+
+// The work of one worker.
+fn work_at<G: Gate, R: Wait>(
+    rt: &R,
+    alloc: Global,
+    pipeline: &Pipeline,
+    joints: &[Channel<Record>],
+    gate: &G,
+    seat: Seat,
+) -> SeatEnd
+    requires { IsSeat (length pipeline.now.stages) joints.now 1 seat }
+    ensures ends { SeatEnds pipeline.now seat result }
+    ensures told { TellsFault result }
+{
+    let Seat {
+        stage,
+        number,
+        read,
+        write,
+    } = seat;
+    let job = Job {
+        stage,
+        number,
+        reader: Reader::new(joint_of(joints, stage - 1, &read), read),
+        writer: writer_of(joints, stage, write),
+    };
+    let WorkerEnd {
+        reader,
+        writer,
+        over,
+        lost,
+        fault,
+        whole,
+    } = work(rt, alloc, pipeline, gate, job);
+    SeatEnd {
+        read: reader.into_pass(),
+        write: into_pass(writer),
+        over,
+        lost,
+        fault,
+        whole,
+    }
+}
+
+// Splits off a pass with one number, if there is a pass.
+fn split_to(joints: &[Channel<Record>], index: u32, pass: &mut Option<Pass>) -> Option<Pass>
+    requires { (numbers : ℕ) × IsNewAtTo joints.now index (numbers + 2) pass.old }
+    ensures { SplitsTo pass.old pass.new result }
+{
+    let Some(pass) = pass.as_mut() else {
+        return None;
+    };
+    Some(joint_of(joints, index, pass).split(pass))
+}
+
+// Splits off the seat of one worker, which has this number at the gate.
+fn split(joints: &[Channel<Record>], seat: &mut Seat, number: u32) -> Seat
+    requires { (numbers : ℕ) × (stages : ℕ) × IsSeat stages joints.now (numbers + 2) seat.old }
+    ensures { SplitsSeat number seat.old seat.new result }
+{
+    Seat {
+        stage: seat.stage,
+        number,
+        read: joint_of(joints, seat.stage - 1, &seat.read).split(&mut seat.read),
+        write: split_to(joints, seat.stage, &mut seat.write),
+    }
+}
+
+// Joins a pass to another, if both are there.
+fn join_to(joints: &[Channel<Record>], index: u32, pass: &mut Option<Pass>, other: Option<Pass>)
+    requires { AreOfTo joints.now index pass.old other }
+    ensures { JoinsTo pass.old other pass.new }
+{
+    let Some(pass) = pass.as_mut() else {
+        return;
+    };
+    let Some(other) = other else {
+        return;
+    };
+    joint_of(joints, index, pass).join(pass, other);
+}
+
+// Moves all of a list to the end of another, where there is memory.
+fn append<T: Drop>(all: &mut Vec<T>, mut more: Vec<T>) -> bool
+    ensures { result ≡ true → all.new.items ≡ all.old.items ++ more.items }
+{
+    all.append(&mut more).is_ok()
+}
+
+fn are_all(a: bool, b: bool, c: bool, d: bool) -> bool
+    ensures { result ≡ true → (a ≡ true) × (b ≡ true) × (c ≡ true) × (d ≡ true) }
+{
+    a && b && c && d
+}
+
+// Takes in what another worker of the stage left.
+fn take_in(joints: &[Channel<Record>], stage: u32, end: SeatEnd, other: SeatEnd) -> SeatEnd
+    requires from { 1 ≤ stage }
+    requires read { (slice_get joints.now (stage - 1) ≡ Some end.read.table) × (slice_get joints.now (stage - 1) ≡ Some other.read.table) }
+    requires write { AreOfTo joints.now stage end.write other.write }
+    ensures { TakesIn end other result }
+{
+    let SeatEnd {
+        mut read,
+        mut write,
+        mut over,
+        mut lost,
+        fault: _,
+        whole,
+    } = end;
+    joint_of(joints, stage - 1, &read).join(&mut read, other.read);
+    join_to(joints, stage, &mut write, other.write);
+    let outcomes = append(&mut over, other.over);
+    let numbers = append(&mut lost, other.lost);
+    SeatEnd {
+        read,
+        write,
+        over,
+        lost,
+        fault: other.fault,
+        whole: are_all(whole, other.whole, outcomes, numbers),
+    }
+}
+
+// What passes leave by which no call was made.
+fn unused(alloc: Global, seat: Seat) -> SeatEnd
+    ensures read { result.read ≡ seat.read }
+    ensures write { result.write ≡ seat.write }
+    ensures over { result.over.items ≡ [] }
+    ensures lost { result.lost.items ≡ [] }
+{
+    let Seat {
+        stage: _,
+        number: _,
+        read,
+        write,
+    } = seat;
+    SeatEnd {
+        read,
+        write,
+        over: Vec::new(alloc),
+        lost: Vec::new(alloc),
+        fault: None,
+        whole: true,
+    }
+}
+
+/// The work of so many workers, each in a thread of its own, which are all joined: their passes to what
+/// is left of the seat's.
+#[cycle(workers)]
+pub(crate) fn work_all<G: Gate, R: Wait + Threads + Sync>(
+    rt: &R,
+    alloc: Global,
+    pipeline: &Pipeline,
+    joints: &[Channel<Record>],
+    gate: &G,
+    workers: u32,
+    mut seat: Seat,
+) -> SeatEnd
+    requires { IsSeat (length pipeline.now.stages) joints.now (workers + 1) seat }
+    ensures ends { SeatEnds pipeline.now seat result }
+    ensures told { 1 ≤ workers → TellsFault result }
+{
+    if workers == 0 {
+        return unused(alloc, seat);
+    }
+    let left = workers - 1;
+    let stage = seat.stage;
+    let number = seat.number.saturating_add(left);
+    let other = split(joints, &mut seat, number);
+    let (end, rest) = join(
+        rt,
+        move || -> SeatEnd
+            requires { IsSync R.row × IsSync G.row × IsSeat (length pipeline.now.stages) joints.now 1 other }
+            ensures { SeatEnds pipeline.entry.now other result × TellsFault result }
+        { work_at(rt, alloc, pipeline, joints, gate, other) },
+        move || -> SeatEnd
+            requires { IsSync R.row × IsSync G.row × IsSeat (length pipeline.now.stages) joints.now (left + 1) seat }
+            ensures { SeatEnds pipeline.entry.now seat result }
+        { work_all(rt, alloc, pipeline, joints, gate, left, seat) },
+    );
+    take_in(joints, stage, rest, end)
+}
