@@ -22,8 +22,10 @@
 //! dropped or taken once; and which records a seed makes.
 //!
 //! No contract says that workers run side by side, that they pass the gate before each call on a joint
-//! and under which number, or that a run ends: tests do. No worked history guards the premises of the law of
-//! one joint. Want of memory is the one free answer: a `run_pipeline`, `made_text` or `made_records` that
+//! and under which number, that they make no calls beside those that the text needs, or that a run ends:
+//! tests show the first two for some runs. That the premises of the law of one joint can be met is shown by
+//! `run_pipeline`, which proves them of each joint that it hands back. Want of memory is the one free
+//! answer: a `run_pipeline`, `made_text` or `made_records` that
 //! always gave it would be proved, so tests call each with ample memory.
 #![tactic(auto)]
 

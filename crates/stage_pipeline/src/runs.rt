@@ -136,14 +136,15 @@ fn code_of(pipeline: &Pipeline, records: &Records) -> Option<Fault>
 /// 1 to 16, with a channel between each two, which is the joint that the pipeline names.
 ///
 /// Without a joint that may drop the text is the one-thread text, whatever the threads did; with one it is
-/// that of the report which the joints tell. Worker i of stage j, both as the gate sees them, calls the
-/// gate before each of its calls on a joint, with the number (j - 1) times the workers plus i and its own
-/// turns from 0.
+/// that of the report which the joints tell. Worker i of stage j, where i counts from 0 and j from 1, calls
+/// the gate before each of its calls on a joint, with the number (j - 1) times the workers plus i and its
+/// own turns from 0.
 ///
 /// Without memory a worker takes no further record to its stage, and drains its joint; each crew completes
-/// the next joint all the same, all threads are joined, and the answer is `NoMemory`. Where the system
-/// starts no thread, its caller does the work itself, one stage after the other; a joint that waits for
-/// room then waits for ever. Time and memory are linear in the records and what the stages make of them.
+/// the next joint all the same, all threads are joined, and the answer is `NoMemory`. A crew for which the
+/// system starts no thread comes last, after all that feed its joint: a joint that waits for room may then
+/// wait for ever. Time is that of the stages' work and of sorting outcomes by number; memory is linear in
+/// the records and in what the stages make of them.
 pub fn run_pipeline<G: Gate, R: Wait + Threads + Sync>(
     rt: &R,
     alloc: Global,

@@ -5,7 +5,7 @@ use crate::{made_records, made_text, run_pipeline};
 use ho_base::NoMemory;
 use ho_io::{Gate, OpenGate};
 use pauses::Pause;
-use record_lang::{one_thread_text, parse_pipeline};
+use record_lang::{one_thread_text, parse_pipeline, read_records};
 use std::alloc::Global;
 use std::sync::Wait;
 use std::sync::atomic::{AtomicU64, Ordering};
@@ -80,6 +80,35 @@ fn twenty_thousand_records(rt: HostRuntime) -> Result<(), Fail> {
     Ok(())
 }
 
+// A text of so many stages, each fed by a joint with little room.
+fn copying(alloc: Global, stages: u32) -> Result<Vec<u8>, NoMemory> {
+    let mut text = Vec::new(alloc);
+    for _ in 0..stages {
+        text.extend_from_slice(b"joint wait 7\nstage copy 0\n")?;
+    }
+    Ok(text)
+}
+
+#[test]
+fn one_to_eight_stages(rt: HostRuntime) -> Result<(), Fail> {
+    for stages in 1..=8 {
+        let pipeline = copying(rt.alloc(), stages)?;
+        assert!(rt; is_one_thread(&rt, rt.alloc(), &pipeline, 60, 3)?);
+    }
+    Ok(())
+}
+
+// A joint with room for one record, which comes alone, drops nothing, and the counts tell so.
+#[test]
+fn one_record_through_a_joint_that_drops(rt: HostRuntime) -> Result<(), Fail> {
+    let pipeline = parse_pipeline(rt.alloc(), b"joint dropwrite 1\nstage copy 0\n")?;
+    let records = read_records(rt.alloc(), b"a\n")?;
+    let ran = run_pipeline(&rt, rt.alloc(), &pipeline, records, 2, &OpenGate)?;
+    let want = b"result,0,a,a\ncounts,1,1,0,0,0\nending,done\n";
+    assert_eq!(rt; ran.text.bytes(), want.as_slice());
+    Ok(())
+}
+
 // Whether a run over made records is told so.
 fn is_made<R: Wait + Threads + Sync>(
     rt: &R,
@@ -131,7 +160,7 @@ impl Gate for Meeting {
 }
 
 #[test]
-fn three_workers_meet_before_their_first_calls(rt: HostRuntime) -> Result<(), Fail> {
+fn three_workers_meet_at_a_gate(rt: HostRuntime) -> Result<(), Fail> {
     let gate = Meeting {
         came: AtomicU64::new(0),
         missed: AtomicU64::new(0),
