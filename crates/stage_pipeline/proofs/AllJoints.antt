@@ -31,7 +31,7 @@ WritesFirst arriving [] = ⊥
 WritesFirst arriving (e ∷ es) = WritesAll arriving e.before e.lost
 
 pub record JointMet (workers index : ℕ) (line : Joint) (fault : ℕ) (e : JointEnd) : Type 0 where
-  pub meets : MeetsJoint line (callers_at workers index) fault e
+  pub meets : MeetsJoint line (callers_at workers index) workers fault e
   pub shows : ShowsJoint line fault e
 
 -- each joint is completed with the one fault
@@ -70,6 +70,7 @@ module _ (what : Stage) (stage : ℕ) (line : Joint) (fault : ℕ) (e : JointEnd
       settled = r.settled_to;
       quiet = r.quiet_to;
       uncompleting = r.uncompleting_to;
+      untold = r.untold_to;
     }
 
 -- 2. All of them
@@ -82,20 +83,20 @@ all_pass workers index fault (what ∷ []) stage lines arriving (e ∷ f ∷ es)
 all_pass workers index fault (what ∷ []) stage [] arriving (e ∷ []) b m r a = absurd m
 all_pass workers index fault (what ∷ []) stage (line ∷ next ∷ lines) arriving (e ∷ []) b m r a = absurd m.1.2
 all_pass workers index fault (what ∷ []) stage (line ∷ []) arriving (e ∷ []) b m r a =
-    let shows = joint_shows line (callers_at workers index) fault e (All-head IsBuildable line [] b) m.0 arriving (says what stage) None [] a r m.1.0 m.1.1 in
+    let shows = joint_shows line (callers_at workers index) workers fault e (All-head IsBuildable line [] b) m.0 arriving (says what stage) None [] a r m.1.0 m.1.1 in
     record { passes = passes_last what stage line fault e arriving shows a r; met = (record { meets = m.0; shows = shows }, tt) }
 all_pass workers index fault (what ∷ after ∷ stages) stage lines arriving [] b m r a = absurd a
 all_pass workers index fault (what ∷ after ∷ stages) stage lines arriving (e ∷ []) b m r a = absurd r
 all_pass workers index fault (what ∷ after ∷ stages) stage [] arriving (e ∷ f ∷ es) b m r a = absurd m
 all_pass workers index fault (what ∷ after ∷ stages) stage (line ∷ lines) arriving (e ∷ f ∷ es) b m r a =
-    let shows = joint_shows line (callers_at workers index) fault e (All-head IsBuildable line lines b) m.0 arriving (says what stage) (Some f.before) f.lost a r.0 m.1.0 m.1.1 in
+    let shows = joint_shows line (callers_at workers index) workers fault e (All-head IsBuildable line lines b) m.0 arriving (says what stage) (Some f.before) f.lost a r.0 m.1.0 m.1.1 in
     let same = shows.told m.1.0 m.1.1 in
     let rest = all_pass workers (index + 1) fault (after ∷ stages) (stage + 1) lines (going_on what stage (passage e)) (f ∷ es) (All-tail IsBuildable line lines b) (subst (λ (t : ℕ). MeetJoints workers (index + 1) lines t (f ∷ es)) same m.1.2) r.1
     (writes_next what stage line fault e arriving shows a f r.0) in
     record { passes = (passes_on what stage line fault e arriving shows a f r.0, rest.passes); met = (record { meets = m.0; shows = shows }, rest.met) }
 
 feeds_all : (fed : List Row) (p : LockPass) (lost : List ℕ) → Feeds fed p lost → WritesAll (weight_of_rows fed) p lost
-feeds_all fed p lost f = record { writes = f.writes; loses = f.loses; settled = f.settled; quiet = f.quiet; uncompleting = f.uncompleting }
+feeds_all fed p lost f = record { writes = f.writes; loses = f.loses; settled = f.settled; quiet = f.quiet; uncompleting = f.uncompleting; untold = f.untold }
 
 feeds_first : (fed : List Row) (es : List JointEnd) → FeedsFirst fed es → WritesFirst (weight_of_rows fed) es
 feeds_first fed [] f = absurd f

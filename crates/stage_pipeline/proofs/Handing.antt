@@ -13,6 +13,7 @@ use Rattle.passes.proofs.Calls.{all_whole, joins_take}
 use Rattle.turn_lock.specs.Passes.{LockPass}
 use Rattle.turn_lock.specs.declared.view.Obstacle.{Obstacle}
 use Rattle.channel_core.specs.Marks.{fault_number}
+use Rattle.channel_flow.specs.Ends.{is_closed}
 use Rattle.record_lang.specs.Guards.{fed_rows, stop_code}
 use Rattle.record_lang.specs.Pipelines.{HasJoints, Meaning}
 use Rattle.record_lang.specs.Records.{Row}
@@ -26,7 +27,7 @@ use Rattle.stage_pipeline.specs.Gathered.{AreEndsOf, AreJoined, Gathers, dropped
 use Rattle.stage_pipeline.specs.Meetings.{FeedsFirst, HandsOn, JointEnd, MeetJoints, MeetsJoint, WorkStages, lost_from}
 use Rattle.stage_pipeline.specs.Runs.{callers_at, channel_of}
 use Rattle.stage_pipeline.specs.Starts.{AreStarts, StartJoints, StartsJoint, writers_at}
-use Rattle.stage_pipeline.specs.Works.{WorksOff}
+use Rattle.stage_pipeline.specs.Works.{WorksOff, counts}
 use Rattle.stage_pipeline.specs.declared.flow.Flow.{Flow}
 use Rattle.stage_pipeline.specs.declared.kits.CrewEnd.{CrewEnd}
 use Rattle.stage_pipeline.specs.declared.kits.Feed.{Feed}
@@ -68,14 +69,15 @@ module _ (workers index : ℕ) (t : TableId) (line : Joint) (w0 w r p : LockPass
       let g = callers_whole in
       all_whole Obstacle p (subst (λ (m : ℕ). HoldsBelow m p.held) (sym callers_whole) take.1) (omega (arith, a, b, c, d, e, f, g))
 
-  meets_joint : (fault : ℕ) (before : LockPass) (lost : List ℕ) (over : List Outcome) → Completes fault before w
-      → MeetsJoint line (callers_at workers index) fault (record { before = before; after = w; lost = lost; read = r; over = over; whole = p })
-  meets_joint fault before lost over completes = record {
+  meets_joint : (fault : ℕ) (before : LockPass) (lost : List ℕ) (over : List Outcome) → Completes fault before w → counts is_closed r ≡ workers
+      → MeetsJoint line (callers_at workers index) workers fault (record { before = before; after = w; lost = lost; read = r; over = over; whole = p })
+  meets_joint fault before lost over completes closed = record {
     object = object_whole;
     callers_are = callers_whole;
     completes = completes;
     joined = j;
     all = whole_pass;
+    closed = closed;
   }
 
 -- 2. All joints from one on
@@ -156,16 +158,16 @@ module _ (workers index fault : ℕ) (t : TableId) (line : Joint) (w0 : LockPass
       let e : index ≡ kit.stage - 1 = omega (arith, s) in
       subst (λ (n : ℕ). slice_get pipeline.stages n ≡ Some what) e at
 
-  works_here : StartsJoint workers index t line w0 kit → CrewEnds pipeline kit e → e.whole ≡ true → slice_get pipeline.stages index ≡ Some what → CrewWorks (says what (index + 1)) e
-  works_here start crew is_whole at = subst (λ (n : ℕ). CrewWorks (says what n) e) start.stage (crew.works is_whole what (stage_here start at))
+  works_here : StartsJoint workers index t line w0 kit → CrewEnds pipeline kit e → e.whole ≡ true → slice_get pipeline.stages index ≡ Some what → CrewWorks (says what (index + 1)) workers e
+  works_here start crew is_whole at = subst (λ (z : ℕ × ℕ). CrewWorks (says what z.0) z.1 e) (λ i. (start.stage i, start.workers_are i)) (crew.works is_whole what (stage_here start at))
 
-  pub meets_more : (lines : List Joint) (stages : List Stage) (ends : List CrewEnd) (passes : List LockPass) (works : CrewWorks (says what (index + 1)) e) → length lines ≡ length stages → StartsJoint workers index t line w0 kit
+  pub meets_more : (lines : List Joint) (stages : List Stage) (ends : List CrewEnd) (passes : List LockPass) (works : CrewWorks (says what (index + 1)) workers e) → length lines ≡ length stages → StartsJoint workers index t line w0 kit
       → CrewEnds pipeline kit e → ComesBack w0 w → Completes fault b w → Joins number_of w e.read p → Meets workers (index + 1) lines stages works.fault works.before e.lost.items ends passes
       → Meets workers index (line ∷ lines) (what ∷ stages) fault (Some b) lost (e ∷ ends) (p ∷ passes)
   meets_more lines stages ends passes works count start crew back completes joins rest =
       let here : JointEnd = record { before = b; after = w; lost = lost; read = e.read; over = e.over.items; whole = p } in record {
         list = here ∷ rest.list;
-        meet = (meets_joint workers index t line w0 w e.read p kit start back crew.read joins fault b lost e.over.items completes, (works.fault, works.told, rest.meet));
+        meet = (meets_joint workers index t line w0 w e.read p kit start back crew.read joins fault b lost e.over.items completes works.closed, (works.fault, works.told, rest.meet));
         work = work_more workers (index + 1) works.fault what stages lines (index + 1) here rest.list works.before e.lost.items count rest.meet rest.work rest.head works.works;
         head = (refl, refl);
         joints = ap (λ (l : List LockPass). p ∷ l) rest.joints;

@@ -32,13 +32,14 @@ use Rattle.stage_pipeline.specs.Runs.{channel_of, dropped_numbers}
 use Rattle.stage_pipeline.specs.Meetings.{JointEnd, MeetsJoint}
 use Rattle.stage_pipeline.proofs.Joining.{total, fault_is_first, joints_add_up, fault_goes_on, joints_drop_nothing, few_are_dropped}
 
--- by this pass what arrives was written, with these numbers dropped, and nothing was taken or completed
+-- by this pass what arrives was written, with these numbers dropped, and nothing was taken, completed or told of the end
 pub record WritesAll (arriving : (Mark → ℕ) → ℕ) (p : LockPass) (lost : List ℕ) : Type 0 where
   pub writes : (h : Mark → ℕ) → weighs (weight h written_in) p ≡ arriving h
   pub loses : (g : ℕ → ℕ) → sum_by g lost ≡ weighs (lost_by g) p
   pub settled : counts is_begun p ≡ counts is_finished p
   pub quiet : (h : Mark → ℕ) → (weighs (weight h taken_in) p ≡ 0) × (weighs (weight h given_back_in) p ≡ 0)
   pub uncompleting : counts is_completing p ≡ 0
+  pub untold : counts is_closed p ≡ 0
 
 -- no items are dropped, or as many are taken as the joint has room for, or all
 abbrev pub HasRoom : Joint → List Mark → List Mark → List Mark → Type 0
@@ -49,7 +50,7 @@ HasRoom (joint.DropWrite capacity) written taken lost = min (length written) cap
 HasRoom joint.Unbounded written taken lost = lost ≡ []
 
 -- What the whole pass of a joint has seen is what its writers wrote and dropped and its readers took. What was written was taken
--- or dropped, and its readers were told the fault of its one completion.
+-- or dropped, and its readers, and nobody else, were told the fault of its one completion.
 pub record ShowsJoint (line : Joint) (fault : ℕ) (e : JointEnd) : Type 0 where
   pub written : (h : Mark → ℕ) → sum_by h (flat_map written_in e.whole.seen) ≡ weighs (weight h written_in) e.before
   pub taken : (h : Mark → ℕ) → sum_by h (flat_map taken_in e.whole.seen) ≡ weighs (weight h taken_in) e.read
@@ -58,6 +59,7 @@ pub record ShowsJoint (line : Joint) (fault : ℕ) (e : JointEnd) : Type 0 where
   pub room : HasRoom line (flat_map written_in e.whole.seen) (flat_map taken_in e.whole.seen) (flat_map dropped_in e.whole.seen)
   pub told : (f : ℕ) → 0 < counts (is_closed_with f) e.read → f ≡ fault
   pub completed : (count_by is_completing e.whole.seen ≡ 1) × (first_fault e.whole.seen ≡ Some fault)
+  pub closed : count_by is_closed e.whole.seen ≡ counts is_closed e.read
 
 -- 1. Plain lists
 
@@ -170,7 +172,7 @@ module _ (fault : ℕ) (set : Bool) (e : JointEnd) where
 
 -- 3. The joint of a run
 
-module _ (line : Joint) (callers fault : ℕ) (e : JointEnd) (buildable : IsBuildable line) (m : MeetsJoint line callers fault e) where
+module _ (line : Joint) (callers workers fault : ℕ) (e : JointEnd) (buildable : IsBuildable line) (m : MeetsJoint line callers workers fault e) where
   held_is : e.whole.held ≡ held_both e.before.held e.read.held
   held_is = ap (λ (p : LockPass). p.held) m.joined.joined ∙ ap (λ (h : List Bool). held_both h e.read.held) m.completes.same.held
 
@@ -206,6 +208,12 @@ module _ (line : Joint) (callers fault : ℕ) (e : JointEnd) (buildable : IsBuil
         ∙ (sym (lost_is fault m.completes.set e (channel_of line) joined quiet (λ x. g (number_of x)))
         ∙ sym (mapped_weight g number_of (flat_map dropped_in e.whole.seen)))
 
+    readers_told : count_by is_closed e.whole.seen ≡ counts is_closed e.read
+    readers_told =
+        let t = all_weigh fault m.completes.set e (channel_of line) joined (λ x. cond (is_closed x) 1 0) in
+        let w = a.untold in
+        omega arith
+
     pub joint_shows : ShowsJoint line fault e
     joint_shows = record {
       written = written_is fault m.completes.set e (channel_of line) joined quiet;
@@ -215,4 +223,5 @@ module _ (line : Joint) (callers fault : ℕ) (e : JointEnd) (buildable : IsBuil
       room = has_room fault m.completes.set e line joined quiet;
       told = told_fault fault m.completes.set e (channel_of line) joined quiet;
       completed = completed_once fault m.completes.set e (channel_of line) joined quiet;
+      closed = readers_told;
     }

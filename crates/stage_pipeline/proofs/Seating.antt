@@ -16,7 +16,7 @@ use Rattle.turn_lock.specs.Passes.{LockPass}
 use Rattle.turn_lock.specs.declared.view.Obstacle.{Obstacle}
 use Rattle.channel_core.specs.Marks.{fault_number}
 use Rattle.channel_flow.specs.Items.{taken_in, weight, written_in}
-use Rattle.channel_flow.specs.Ends.{is_begun, is_closed_with, is_finished}
+use Rattle.channel_flow.specs.Ends.{is_begun, is_closed, is_closed_with, is_finished}
 use Rattle.record_lang.specs.Pipelines.{Meaning}
 use Rattle.record_lang.specs.declared.outcomes.Outcome.{Outcome}
 use Rattle.record_lang.specs.declared.pipelines.Stage.{Stage}
@@ -233,7 +233,7 @@ both_back_to joints index n (Some p) (Some q) (Some other) None other' all new s
 both_back_to joints index n (Some p) (Some q) (Some other) (Some q') None all new s a b j = absurd b
 both_back_to joints index n (Some p) (Some q) (Some other) (Some q') (Some other') None new s a b j = absurd j
 
-module _ (m : Meaning) (stages : ℕ) (joints : List TableId) (n number : ℕ) (s t other : Seat) (is : IsSeat stages joints (n + 1) s) (parts : SplitsSeat number s t other) (rest end : SeatEnd) (a : SeatEnds m t rest) (b : SeatEnds m other end) where
+module _ (m : Meaning) (stages : ℕ) (joints : List TableId) (n number left : ℕ) (s t other : Seat) (is : IsSeat stages joints (n + 1) s) (parts : SplitsSeat number s t other) (rest end : SeatEnd) (a : SeatEnds m left t rest) (b : SeatEnds m 1 other end) where
   pub read_of : (slice_get joints (s.stage - 1) ≡ Some rest.read.table) × (slice_get joints (s.stage - 1) ≡ Some end.read.table)
   read_of = (
     back_at joints (s.stage - 1) n t.read rest.read (kept_new joints (s.stage - 1) n s.read t.read other.read is.reads parts.read) a.read,
@@ -254,11 +254,12 @@ module _ (m : Meaning) (stages : ℕ) (joints : List TableId) (n number : ℕ) (
         let both = works_both (says what s.stage) rest.read end.read all.read rest.write end.write all.write rest.over.items end.over.items rest.lost.items end.lost.items takes.read takes.write mine theirs in
         subst (λ (z : List Outcome × List ℕ). WorksOff (says what s.stage) all.read all.write z.0 z.1) (λ i. (sym w.2 i, sym w.3 i)) both
 
-    pub all_ends : SeatEnds m s all
-    all_ends = record {
+    pub all_ends : (workers : ℕ) → workers ≡ left + 1 → SeatEnds m workers s all
+    all_ends workers one_more = record {
       read = both_come_back joints (s.stage - 1) n s.read t.read other.read is.reads parts.read rest.read end.read all.read a.read b.read takes.read;
       write = both_back_to joints s.stage n s.write t.write other.write rest.write end.write all.write is.writes parts.write a.write b.write takes.write;
       works = works;
+      closed = λ whole. (let w = takes.whole whole in let x = a.closed w.0 in let y = b.closed w.1 in let z = counts_both rest.read end.read all.read takes.read is_closed in omega (arith, one_more, x, y, z));
     }
 
     pub all_tell : TellsFault end → TellsFault all

@@ -60,7 +60,7 @@ may_drop (joint.DropOldest capacity) arrived p room t = few_left capacity arrive
 may_drop (joint.DropWrite capacity) arrived p room t = few_left capacity arrived p room t
 may_drop joint.Unbounded arrived p room t = ap (map number_of) room
 
-joint_pass : (workers index : ℕ) (line : Joint) (arrived : List Row) (fault : ℕ) (e : JointEnd) → JointMet workers index line fault e → TellsJoint arrived (passage e) → IsJointPass line (callers_at workers index) arrived fault e.whole
+joint_pass : (workers index : ℕ) (line : Joint) (arrived : List Row) (fault : ℕ) (e : JointEnd) → JointMet workers index line fault e → TellsJoint arrived (passage e) → IsJointPass line (callers_at workers index) workers arrived fault e.whole
 joint_pass workers index line arrived fault e m t = record {
   whole = m.meets.all;
   object = m.meets.object;
@@ -71,6 +71,7 @@ joint_pass workers index line arrived fault e m t = record {
   taken = t.taken;
   may_drop = may_drop line arrived (passage e) m.shows.room t;
   completed = m.shows.completed;
+  readers = m.shows.closed ∙ m.meets.closed;
 }
 
 drops_same : (es : List JointEnd) → drops_in (map passage es) ≡ drops_of (wholes es)
@@ -99,7 +100,7 @@ module _ (pipeline : Meaning) (rows : List Row) (workers : ℕ) (es : List Joint
         let told' = subst (λ (ds : List (List ℕ)). TellsJoint (reached pipeline.stages ds j those_fed) (passage here.0)) (drops_same es) told in
         let index : 0 + j ≡ j = omega arith in
         let m = subst (λ (i : ℕ). JointMet workers i line stopped here.0) index here.3 in
-        subst (λ (q : LockPass). IsJointPass line (callers_at workers j) (reaching j) stopped q) here.2 (joint_pass workers j line (reaching j) stopped here.0 m told')
+        subst (λ (q : LockPass). IsJointPass line (callers_at workers j) workers (reaching j) stopped q) here.2 (joint_pass workers j line (reaching j) stopped here.0 m told')
         );
   }
 

@@ -77,11 +77,13 @@ CompletesTo fault None (Some a) = ⊥
 CompletesTo fault (Some b) None = ⊥
 CompletesTo fault (Some b) (Some a) = Completes fault b a
 
--- The workers worked off what their joint gave. Then, and with the fault that they were told, the crew completed the next joint.
-pub record CrewWorks (does : Mark → Outcome) (e : CrewEnd) : Type 0 where
+-- So many workers worked off what their joint gave, each up to its end. Then, and with the fault that they were told, the crew
+-- completed the next joint.
+pub record CrewWorks (does : Mark → Outcome) (workers : ℕ) (e : CrewEnd) : Type 0 where
   pub before : Option LockPass
   pub fault : ℕ
   pub works : WorksOff does e.read before e.over.items e.lost.items
+  pub closed : counts is_closed e.read ≡ workers
   pub told : 0 < counts (is_closed_with fault) e.read
   pub completes : CompletesTo fault before e.write
 
@@ -89,7 +91,7 @@ pub record CrewWorks (does : Mark → Outcome) (e : CrewEnd) : Type 0 where
 pub record CrewEnds (pipeline : Meaning) (kit : Kit) (e : CrewEnd) : Type 0 where
   pub read : ComesBack kit.read e.read
   pub write : ComesBackTo kit.write e.write
-  pub works : e.whole ≡ true → (what : Stage) → slice_get pipeline.stages (kit.stage - 1) ≡ Some what → CrewWorks (says what kit.stage) e
+  pub works : e.whole ≡ true → (what : Stage) → slice_get pipeline.stages (kit.stage - 1) ≡ Some what → CrewWorks (says what kit.stage) kit.workers e
 
 abbrev pub EachCrewEnds : Meaning → List Kit → List CrewEnd → Type 0
 EachCrewEnds pipeline [] [] = Unit {0}

@@ -5,7 +5,7 @@ use Rattle.passes.specs.Calls.{Joins}
 use Rattle.passes.specs.Views.{IsWhole}
 use Rattle.turn_lock.specs.Passes.{LockPass}
 use Rattle.channel_core.specs.Marks.{fault_number}
-use Rattle.channel_flow.specs.Ends.{is_closed_with}
+use Rattle.channel_flow.specs.Ends.{is_closed, is_closed_with}
 use Rattle.record_lang.specs.Guards.{fed_rows, stop_code}
 use Rattle.record_lang.specs.Pipelines.{Meaning}
 use Rattle.record_lang.specs.Records.{Row}
@@ -29,18 +29,20 @@ pub record JointEnd : Type 0 where
   pub over : List Outcome
   pub whole : LockPass
 
-pub record MeetsJoint (line : Joint) (callers fault : ℕ) (e : JointEnd) : Type 0 where
+-- each of so many workers that read it was told of its end
+pub record MeetsJoint (line : Joint) (callers workers fault : ℕ) (e : JointEnd) : Type 0 where
   pub object : e.whole.object ≡ channel_of line
   pub callers_are : e.whole.callers ≡ callers
   pub completes : Completes fault e.before e.after
   pub joined : Joins number_of e.after e.read e.whole
   pub all : IsWhole e.whole
+  pub closed : counts is_closed e.read ≡ workers
 
 -- each joint is completed with the fault that the readers of the joint before it were told
 abbrev pub MeetJoints : ℕ → ℕ → List Joint → ℕ → List JointEnd → Type 0
 MeetJoints workers index [] fault [] = Unit {0}
 MeetJoints workers index (line ∷ lines) fault (e ∷ ends) =
-    MeetsJoint line (callers_at workers index) fault e × ((told : ℕ) × (0 < counts (is_closed_with told) e.read) × MeetJoints workers (index + 1) lines told ends)
+    MeetsJoint line (callers_at workers index) workers fault e × ((told : ℕ) × (0 < counts (is_closed_with told) e.read) × MeetJoints workers (index + 1) lines told ends)
 MeetJoints workers index _ fault _ = ⊥
 
 -- each stage worked off what its joint gave, into the next joint

@@ -10,7 +10,7 @@ use Rattle.passes.specs.Views.{IsWhole}
 use Rattle.turn_lock.specs.Passes.{LockPass}
 use Rattle.channel_core.specs.Marks.{fault_number}
 use Rattle.channel_flow.specs.Items.{written_in, taken_in, dropped_in}
-use Rattle.channel_flow.specs.Ends.{first_fault, is_completing}
+use Rattle.channel_flow.specs.Ends.{first_fault, is_closed, is_completing}
 use Rattle.record_lang.specs.Guards.{fed_rows, stop_code}
 use Rattle.record_lang.specs.Marks.{mark_of}
 use Rattle.record_lang.specs.Pipelines.{Meaning}
@@ -49,8 +49,9 @@ MayDrop (joint.DropWrite capacity) arrived dropped = min (length arrived) capaci
 MayDrop joint.Unbounded arrived dropped = dropped ≡ []
 
 -- The whole pass of a joint that these records reached: what was written to it is these records, what it dropped is those of
--- the dropped numbers, and what was taken is the others, each once. It was completed once, with this fault.
-pub record IsJointPass (line : Joint) (callers : ℕ) (arrived : List Row) (fault : ℕ) (p : LockPass) : Type 0 where
+-- the dropped numbers, and what was taken is the others, each once. It was completed once, with this fault. Of its end it told
+-- each of so many workers, once.
+pub record IsJointPass (line : Joint) (callers workers : ℕ) (arrived : List Row) (fault : ℕ) (p : LockPass) : Type 0 where
   pub whole : IsWhole p
   pub object : p.object ≡ channel_of line
   pub callers_are : p.callers ≡ callers
@@ -60,12 +61,13 @@ pub record IsJointPass (line : Joint) (callers : ℕ) (arrived : List Row) (faul
   pub taken : IsPermutation (flat_map taken_in p.seen) (map mark_of (left_of (dropped_numbers p) arrived))
   pub may_drop : MayDrop line arrived (dropped_numbers p)
   pub completed : (count_by is_completing p.seen ≡ 1) × (first_fault p.seen ≡ Some fault)
+  pub readers : count_by is_closed p.seen ≡ workers
 
 -- there is a whole pass for each joint, in order, and what each dropped tells which records reach the next
 pub record AreJointPasses (pipeline : Meaning) (rows : List Row) (workers : ℕ) (passes : List LockPass) : Type 0 where
   pub count : length passes ≡ length pipeline.joints
   pub each : (j : ℕ) (line : Joint) (p : LockPass) → slice_get pipeline.joints j ≡ Some line → slice_get passes j ≡ Some p
-      → IsJointPass line (callers_at workers j) (reached pipeline.stages (drops_of passes) j (fed_rows pipeline.guard rows)) (fault_number (stop_code pipeline.guard rows)) p
+      → IsJointPass line (callers_at workers j) workers (reached pipeline.stages (drops_of passes) j (fed_rows pipeline.guard rows)) (fault_number (stop_code pipeline.guard rows)) p
 
 -- what contracts see of a run
 pub record RanView : Type 0 where

@@ -5,7 +5,7 @@ use Rattle.ho_base.specs.Marks.{number_of}
 use Rattle.passes.specs.Calls.{Joins, Splits}
 use Rattle.turn_lock.specs.Passes.{LockPass}
 use Rattle.channel_core.specs.Marks.{fault_number}
-use Rattle.channel_flow.specs.Ends.{is_closed_with}
+use Rattle.channel_flow.specs.Ends.{is_closed, is_closed_with}
 use Rattle.record_lang.specs.Pipelines.{Meaning}
 use Rattle.record_lang.specs.declared.pipelines.Stage.{Stage}
 use Rattle.joint_reports.specs.Through.{says}
@@ -21,11 +21,13 @@ pub record IsSeat (stages : ℕ) (joints : List TableId) (numbers : ℕ) (s : Se
   pub reads : IsNewAt joints (s.stage - 1) numbers s.read
   pub writes : IsNewAtTo joints s.stage numbers s.write
 
--- The passes come back. Where all found memory, what was read was worked off.
-pub record SeatEnds (pipeline : Meaning) (s : Seat) (e : SeatEnd) : Type 0 where
+-- The passes come back. Where all found memory, what was read was worked off, and each of so many workers was told of the end of
+-- the joint, once.
+pub record SeatEnds (pipeline : Meaning) (workers : ℕ) (s : Seat) (e : SeatEnd) : Type 0 where
   pub read : ComesBack s.read e.read
   pub write : ComesBackTo s.write e.write
   pub works : e.whole ≡ true → (what : Stage) → slice_get pipeline.stages (s.stage - 1) ≡ Some what → WorksOff (says what s.stage) e.read e.write e.over.items e.lost.items
+  pub closed : e.whole ≡ true → counts is_closed e.read ≡ workers
 
 -- a worker was told this fault at the end of its joint
 abbrev pub TellsFault : SeatEnd → Type 0

@@ -75,7 +75,7 @@ fn work_at<G: Gate, R: Wait>(
     seat: Seat,
 ) -> SeatEnd
     requires { IsSeat (length pipeline.now.stages) joints.now 1 seat }
-    ensures ends { SeatEnds pipeline.now seat result }
+    ensures ends { SeatEnds pipeline.now 1 seat result }
     ensures told { TellsFault result }
 {
     let Seat {
@@ -224,7 +224,7 @@ pub(crate) fn work_all<G: Gate, R: Wait + Threads + Sync>(
     mut seat: Seat,
 ) -> SeatEnd
     requires { IsSeat (length pipeline.now.stages) joints.now (workers + 1) seat }
-    ensures ends { SeatEnds pipeline.now seat result }
+    ensures ends { SeatEnds pipeline.now workers seat result }
     ensures told { 1 ≤ workers → TellsFault result }
 {
     if workers == 0 {
@@ -238,11 +238,11 @@ pub(crate) fn work_all<G: Gate, R: Wait + Threads + Sync>(
         rt,
         move || -> SeatEnd
             requires { IsSync R.row × IsSync G.row × IsSeat (length pipeline.now.stages) joints.now 1 other }
-            ensures { SeatEnds pipeline.entry.now other result × TellsFault result }
+            ensures { SeatEnds pipeline.entry.now 1 other result × TellsFault result }
         { work_at(rt, alloc, pipeline, joints, gate, other) },
         move || -> SeatEnd
             requires { IsSync R.row × IsSync G.row × IsSeat (length pipeline.now.stages) joints.now (left + 1) seat }
-            ensures { SeatEnds pipeline.entry.now seat result }
+            ensures { SeatEnds pipeline.entry.now left seat result }
         { work_all(rt, alloc, pipeline, joints, gate, left, seat) },
     );
     take_in(joints, stage, rest, end)

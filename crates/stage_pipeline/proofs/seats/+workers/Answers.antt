@@ -23,23 +23,23 @@ join-end-requires-after_bounds g t c κs within =
 pub take_in-requires-clause-read : goal.take_in-requires-clause-read
 take_in-requires-clause-read g t c =
     let some : 0 < c.args.workers = search rules in
-    read_of c.args.pipeline.now _ _ _ _ c.args.seat c.split-other.new.seat c.split-other.result (one_more _ _ c.args.workers c.args.seat some c.requires) c.split-other.ensures
+    read_of c.args.pipeline.now _ _ _ _ _ c.args.seat c.split-other.new.seat c.split-other.result (one_more _ _ c.args.workers c.args.seat some c.requires) c.split-other.ensures
     c.join-end.result.1 c.join-end.result.0 c.join-end.ensures.second c.join-end.ensures.first.0
 
 pub take_in-requires-clause-write : goal.take_in-requires-clause-write
 take_in-requires-clause-write g t c =
     let some : 0 < c.args.workers = search rules in
-    write_of c.args.pipeline.now _ _ _ _ c.args.seat c.split-other.new.seat c.split-other.result (one_more _ _ c.args.workers c.args.seat some c.requires) c.split-other.ensures
+    write_of c.args.pipeline.now _ _ _ _ _ c.args.seat c.split-other.new.seat c.split-other.result (one_more _ _ c.args.workers c.args.seat some c.requires) c.split-other.ensures
     c.join-end.result.1 c.join-end.result.0 c.join-end.ensures.second c.join-end.ensures.first.0
 
 pub returns-clause-ends : goal.returns-clause-ends
 returns-clause-ends g t c =
     let some : 0 < c.args.workers = search rules in
-    all_ends c.args.pipeline.now _ _ _ _ c.args.seat c.split-other.new.seat c.split-other.result (one_more _ _ c.args.workers c.args.seat some c.requires) c.split-other.ensures
-    c.join-end.result.1 c.join-end.result.0 c.join-end.ensures.second c.join-end.ensures.first.0 c.take_in.result c.take_in.ensures
+    all_ends c.args.pipeline.now _ _ _ _ _ c.args.seat c.split-other.new.seat c.split-other.result (one_more _ _ c.args.workers c.args.seat some c.requires) c.split-other.ensures
+    c.join-end.result.1 c.join-end.result.0 c.join-end.ensures.second c.join-end.ensures.first.0 c.take_in.result c.take_in.ensures c.args.workers (omega (arith, some))
 
 pub returns-clause-told : goal.returns-clause-told
 returns-clause-told g t c some =
     let some : 0 < c.args.workers = search rules in
-    all_tell c.args.pipeline.now _ _ _ _ c.args.seat c.split-other.new.seat c.split-other.result (one_more _ _ c.args.workers c.args.seat some c.requires) c.split-other.ensures
+    all_tell c.args.pipeline.now _ _ _ _ _ c.args.seat c.split-other.new.seat c.split-other.result (one_more _ _ c.args.workers c.args.seat some c.requires) c.split-other.ensures
     c.join-end.result.1 c.join-end.result.0 c.join-end.ensures.second c.join-end.ensures.first.0 c.take_in.result c.take_in.ensures c.join-end.ensures.first.1
