@@ -21,12 +21,14 @@ use Rattle.record_lang.specs.declared.outcomes.Outcome.{Outcome}
 use Rattle.record_lang.specs.declared.pipelines.Joint.{Joint}
 use Rattle.record_lang.specs.declared.pipelines.Stage.{Stage}
 use Rattle.record_lang.specs.declared.reports.Dropped.{Dropped}
+use Rattle.record_lang.specs.declared.texts.FedRows.{FedRows}
 use Rattle.joint_reports.specs.Through.{says}
 use Rattle.stage_pipeline.specs.Crews.{AddsCrewEnds, ComesBack, ComesBackTo, Completes, CompletesTo, CrewEnds, CrewWorks, EachCrewEnds, FeederEnds, FeederWorks, Feeds}
 use Rattle.stage_pipeline.specs.Gathered.{AreEndsOf, AreJoined, Gathers, dropped_by, weight_lost, weight_over}
 use Rattle.stage_pipeline.specs.Meetings.{FeedsFirst, HandsOn, JointEnd, MeetJoints, MeetsJoint, WorkStages, lost_from}
 use Rattle.stage_pipeline.specs.Runs.{callers_at, channel_of}
 use Rattle.stage_pipeline.specs.Starts.{AreStarts, StartJoints, StartsJoint, writers_at}
+use Rattle.stage_pipeline.specs.Tellings.{AreFed}
 use Rattle.stage_pipeline.specs.Works.{WorksOff, counts}
 use Rattle.stage_pipeline.specs.declared.flow.Flow.{Flow}
 use Rattle.stage_pipeline.specs.declared.kits.CrewEnd.{CrewEnd}
@@ -221,12 +223,12 @@ work_whole : (stages : List Stage) (list : List JointEnd) → 1 ≤ length stage
 work_whole [] list some work = absurd (omega (arith, some))
 work_whole (what ∷ stages) list some work = work
 
-pub hands_on : (pipeline : Meaning) (rows : List Row) (workers : ℕ) (ts : List TableId) (kits : List Kit) (feed : Feed) (flow : Flow) (done : Done) → HasJoints pipeline.stages pipeline.joints → feed.records ≡ rows
-    → StartJoints workers 0 ts pipeline.joints (Some feed.write) kits → AddsCrewEnds pipeline kits [] flow.ends.items → FeederEnds pipeline feed flow.fed → Gathers flow done → HandsOn pipeline rows workers done
+pub hands_on : (pipeline : Meaning) (rows : List Row) (workers : ℕ) (ts : List TableId) (kits : List Kit) (feed : Feed) (flow : Flow) (done : Done) → HasJoints pipeline.stages pipeline.joints → AreFed pipeline rows feed.fed
+    → StartJoints workers 0 ts pipeline.joints (Some feed.write) kits → AddsCrewEnds pipeline kits [] flow.ends.items → FeederEnds feed flow.fed → Gathers flow done → HandsOn pipeline rows workers done
 hands_on pipeline rows workers ts kits feed flow done has same start adds fed gathers =
     let each : EachCrewEnds pipeline kits flow.ends.items = subst (λ (l : List CrewEnd). EachCrewEnds pipeline kits l) (sym adds.1) adds.2 in
     let was = fed.works gathers.fed in
-    let works = subst (λ (l : List Row). FeederWorks (fed_rows pipeline.guard l) (fault_number (stop_code pipeline.guard l)) flow.fed) same was in
+    let works = subst (λ (z : List Row × Option ℕ). FeederWorks z.0 (fault_number z.1) flow.fed) (λ i. (same.rows_are i, same.code_is i)) was in
     let m = meets_all workers pipeline [] pipeline.stages 0 (fault_number (stop_code pipeline.guard rows)) ts pipeline.joints (Some feed.write) kits flow.ends.items (Some flow.fed.write) (Some works.before) flow.fed.lost.items done.joints.items
     refl refl has.fed start each fed.write works.completes gathers.joints in record {
       ends = m.list;
@@ -249,8 +251,8 @@ ends_of workers index pipeline (t ∷ ts) (l ∷ lines) (Some w0) (kit ∷ kits)
     (back.table ∙ start.0.sides.write.table_is, each.0.read.table ∙ start.0.sides.read.table_is, ends_of workers (index + 1) pipeline ts lines kit.write kits e.write ends start.1 each.0.write each.1)
 ends_of _ _ _ _ _ _ _ _ _ start back each = absurd start
 
-module _ (pipeline : Meaning) (rows : List Row) (workers : ℕ) (s : Starts) (old : List CrewEnd) (flow : Flow) (none : old ≡ []) (starts : AreStarts pipeline workers s) (adds : AddsCrewEnds pipeline s.kits.items old flow.ends.items)
-    (fed : FeederEnds pipeline (record { records = rows; write = s.feeds }) flow.fed) where
+module _ (pipeline : Meaning) (given : FedRows) (workers : ℕ) (s : Starts) (old : List CrewEnd) (flow : Flow) (none : old ≡ []) (starts : AreStarts pipeline workers s) (adds : AddsCrewEnds pipeline s.kits.items old flow.ends.items)
+    (fed : FeederEnds (record { fed = given; write = s.feeds }) flow.fed) where
   added : AddsCrewEnds pipeline s.kits.items [] flow.ends.items
   added = subst (λ (l : List CrewEnd). AddsCrewEnds pipeline s.kits.items l flow.ends.items) none adds
 
@@ -259,5 +261,5 @@ module _ (pipeline : Meaning) (rows : List Row) (workers : ℕ) (s : Starts) (ol
       let each : EachCrewEnds pipeline s.kits.items flow.ends.items = subst (λ (l : List CrewEnd). EachCrewEnds pipeline s.kits.items l) (sym added.1) added.2 in
       ends_of workers 0 pipeline s.joints.items pipeline.joints (Some s.feeds) s.kits.items (Some flow.fed.write) flow.ends.items starts.joints fed.write each
 
-  pub run_hands_on : (done : Done) → HasJoints pipeline.stages pipeline.joints → Gathers flow done → HandsOn pipeline rows workers done
-  run_hands_on done has gathers = hands_on pipeline rows workers s.joints.items s.kits.items (record { records = rows; write = s.feeds }) flow done has refl starts.joints added fed gathers
+  pub run_hands_on : (rows : List Row) (done : Done) → HasJoints pipeline.stages pipeline.joints → AreFed pipeline rows given → Gathers flow done → HandsOn pipeline rows workers done
+  run_hands_on rows done has same gathers = hands_on pipeline rows workers s.joints.items s.kits.items (record { fed = given; write = s.feeds }) flow done has same starts.joints added fed gathers

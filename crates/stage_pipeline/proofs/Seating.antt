@@ -1,5 +1,5 @@
 -- Numbers that are given to workers and come home, and the work of two passes that are joined.
-use Rattle.std.specs.Prelude.{ℕ, List, ◌++◌, Bool, true, false, cond, Option, Some, None, slice_get}
+use Rattle.std.specs.Prelude.{ℕ, List, [], ◌++◌, Bool, true, false, cond, Option, Some, None, slice_get}
 use Rattle.std.specs.List.{sum_by}
 use Rattle.std.proofs.Common.{◌≡◌, true≢false, refl, ap, sym, ◌∙◌, subst, ◌+◌, ◌-◌, ◌<◌, ◌≤◌, arith}
 use Rattle.std.proofs.lemmas.List.Sums.{sum_by-append}
@@ -23,9 +23,10 @@ use Rattle.record_lang.specs.declared.pipelines.Stage.{Stage}
 use Rattle.joint_reports.specs.Through.{says, goes, ends}
 use Rattle.stage_pipeline.specs.Crews.{ComesBack, ComesBackTo, IsNewAt, IsNewAtTo}
 use Rattle.stage_pipeline.specs.Seats.{AreOfTo, IsSeat, JoinsTo, SeatEnds, SplitsSeat, SplitsTo, TakesIn, TellsFault}
-use Rattle.stage_pipeline.specs.Works.{WorksOff, counts, counts_to, is_last, lost_by, weighs, weighs_to}
+use Rattle.stage_pipeline.specs.Works.{IsNewTo, WorksOff, counts, counts_to, is_last, lost_by, weighs, weighs_to}
 use Rattle.stage_pipeline.specs.declared.seats.Seat.{Seat}
 use Rattle.stage_pipeline.specs.declared.seats.SeatEnd.{SeatEnd}
+use Rattle.stage_pipeline.proofs.Turns.{new_counts, works_start}
 
 -- 1. Numbers that are given away
 
@@ -267,3 +268,27 @@ module _ (m : Meaning) (stages : ℕ) (joints : List TableId) (n number left : �
         let told = tells (takes.whole whole).1 in
         let sum = counts_both rest.read end.read all.read takes.read (is_closed_with (fault_number end.fault)) in
         subst (λ (f : Option ℕ). 0 < counts (is_closed_with (fault_number f)) all.read) (sym takes.fault) (omega (arith, told, sum))
+
+-- 5. Passes by which no call was made
+
+module _ (joints : List TableId) (index n : ℕ) where
+  unused_back : (p : LockPass) → IsNewAt joints index n p → ComesBack p p
+  unused_back p new = record { table = refl; object = refl; callers = refl; count = refl; below = new.below }
+
+  unused_back_to : (p : Option LockPass) → IsNewAtTo joints index n p → ComesBackTo p p
+  unused_back_to None new = tt
+  unused_back_to (Some p) new = unused_back p new
+
+  unused_to : (p : Option LockPass) → IsNewAtTo joints index n p → IsNewTo p
+  unused_to None new = tt
+  unused_to (Some p) new = new.unused
+
+pub unused_ends : (m : Meaning) (stages : ℕ) (joints : List TableId) (n : ℕ) (s : Seat) (e : SeatEnd) → IsSeat stages joints n s → e.read ≡ s.read → e.write ≡ s.write → e.over.items ≡ [] → e.lost.items ≡ [] → SeatEnds m 0 s e
+unused_ends m stages joints n s e is read write over lost =
+    let unread = ap (λ (p : LockPass). p.seen) read ∙ is.reads.unused in
+    let unwritten = subst IsNewTo (sym write) (unused_to joints s.stage n s.write is.writes) in record {
+      read = subst (ComesBack s.read) (sym read) (unused_back joints (s.stage - 1) n s.read is.reads);
+      write = subst (ComesBackTo s.write) (sym write) (unused_back_to joints s.stage n s.write is.writes);
+      works = λ whole what at. subst (λ (z : List Outcome × List ℕ). WorksOff (says what s.stage) e.read e.write z.0 z.1) (λ i. (sym over i, sym lost i)) (works_start (says what s.stage) e.read e.write unread unwritten);
+      closed = λ whole. new_counts is_closed e.read unread;
+    }

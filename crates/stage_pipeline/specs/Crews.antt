@@ -12,7 +12,6 @@ use Rattle.turn_lock.specs.Passes.{LockPass}
 use Rattle.channel_core.specs.Marks.{fault_number}
 use Rattle.channel_flow.specs.Items.{written_in, taken_in, given_back_in, weight}
 use Rattle.channel_flow.specs.Ends.{is_begun, is_finished, is_closed, is_closed_with, is_completing}
-use Rattle.record_lang.specs.Guards.{fed_rows, stop_code}
 use Rattle.record_lang.specs.Pipelines.{Meaning}
 use Rattle.record_lang.specs.Records.{Row}
 use Rattle.record_lang.specs.declared.outcomes.Outcome.{Outcome}
@@ -118,7 +117,7 @@ pub record FeederWorks (fed : List Row) (fault : ℕ) (e : FeederEnd) : Type 0 w
   pub feeds : Feeds fed before e.lost.items
   pub completes : Completes fault before e.write
 
--- what the feeder leaves; where it found memory for all, it fed the records before the first that meets the guard
-pub record FeederEnds (pipeline : Meaning) (feed : Feed) (e : FeederEnd) : Type 0 where
+-- what the feeder leaves; where it found memory for all, it fed the records that it was given, and told their code
+pub record FeederEnds (feed : Feed) (e : FeederEnd) : Type 0 where
   pub write : ComesBack feed.write e.write
-  pub works : e.whole ≡ true → FeederWorks (fed_rows pipeline.guard feed.records) (fault_number (stop_code pipeline.guard feed.records)) e
+  pub works : e.whole ≡ true → FeederWorks feed.fed.rows.items (fault_number feed.fed.code) e

@@ -16,4 +16,4 @@ pub record MayFlow (stages : ℕ) (joints : List TableId) (s : Start) : Type 0 w
 pub record HasFlowed (pipeline : Meaning) (s : Start) (f : Flow) : Type 0 where
   pub adds : AddsCrewEnds pipeline s.kits.items s.ends.items f.ends.items
   pub keeps : vec_capacity f.ends ≡ vec_capacity s.ends
-  pub fed_is : FeederEnds pipeline s.feed f.fed
+  pub fed_is : FeederEnds s.feed f.fed

@@ -49,8 +49,8 @@ MayDrop (joint.DropWrite capacity) arrived dropped = min (length arrived) capaci
 MayDrop joint.Unbounded arrived dropped = dropped ≡ []
 
 -- The whole pass of a joint that these records reached: what was written to it is these records, what it dropped is those of
--- the dropped numbers, and what was taken is the others, each once. It was completed once, with this fault. Of its end it told
--- each of so many workers, once.
+-- the dropped numbers, and what was taken is the others, each once. It was completed once, with this fault. Its end was
+-- told to so many reads, one of each worker.
 pub record IsJointPass (line : Joint) (callers workers : ℕ) (arrived : List Row) (fault : ℕ) (p : LockPass) : Type 0 where
   pub whole : IsWhole p
   pub object : p.object ≡ channel_of line

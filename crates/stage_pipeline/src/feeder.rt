@@ -7,7 +7,7 @@ use crate::kits::{Feed, FeederEnd};
 use crate::sides::{complete, joint_of};
 use crate::workers::{Turn, send};
 use channels::{Channel, Writer};
-use record_lang::{FedRows, Pipeline, Record, rows_to_feed};
+use record_lang::{FedRows, Record};
 use std::alloc::Global;
 use std::sync::Wait;
 
@@ -32,20 +32,19 @@ fn write_all<R: Wait>(
     true
 }
 
-/// Feeds the records before the first that meets the guard, or all, and completes the first joint, with
-/// the guard's code as fault where it was met. Without memory it completes the joint and stops.
+/// Feeds these records, and completes the first joint, with their code as fault. Without memory it
+/// completes the joint and stops.
 pub(crate) fn feed_all<R: Wait>(
     rt: &R,
     alloc: Global,
-    pipeline: &Pipeline,
     joints: &[Channel<Record>],
     feed: Feed,
 ) -> FeederEnd
     requires { IsNewAt joints.now 0 1 feed.write }
-    ensures { FeederEnds pipeline.now feed result }
+    ensures { FeederEnds feed result }
 {
-    let Feed { records, write } = feed;
-    let FedRows { rows, code } = rows_to_feed(pipeline, records);
+    let Feed { fed, write } = feed;
+    let FedRows { rows, code } = fed;
     let joint = joint_of(joints, 0, &write);
     let mut writer = Writer::new(joint, write);
     let mut lost = Vec::new(alloc);

@@ -44,7 +44,7 @@ pub(crate) fn flow_all<G: Gate, R: Wait + Threads + Sync>(
     requires feed { IsNewAt joints.now 0 1 start.feed.write }
     ensures ends { AddsCrewEnds pipeline.now start.kits.items start.ends.items result.ends.items }
     ensures room { vec_capacity result.ends ≡ vec_capacity start.ends }
-    ensures fed { FeederEnds pipeline.now start.feed result.fed }
+    ensures fed { FeederEnds start.feed result.fed }
 {
     let Some(kit) = start.kits.pop() else {
         let Start {
@@ -52,7 +52,7 @@ pub(crate) fn flow_all<G: Gate, R: Wait + Threads + Sync>(
             feed,
             ends,
         } = start;
-        let fed = feed_all(rt, alloc, pipeline, joints, feed);
+        let fed = feed_all(rt, alloc, joints, feed);
         return Flow { ends, fed };
     };
     let (end, mut flow) = join(

@@ -1,5 +1,5 @@
 // What the threads of a run are started with, and what they leave.
-use record_lang::{Outcome, Records};
+use record_lang::{FedRows, Outcome};
 use turn_lock::Pass;
 
 /// What a crew is started with.
@@ -27,10 +27,10 @@ pub(crate) struct CrewEnd {
     pub(crate) whole: bool,
 }
 
-/// What the feeder is started with: the records, and a pass of the first joint.
+/// What the feeder is started with: the records that it feeds, and a pass of the first joint.
 #[derive(Drop)]
 pub(crate) struct Feed {
-    pub(crate) records: Records,
+    pub(crate) fed: FedRows,
     pub(crate) write: Pass,
 }
 

@@ -1,12 +1,11 @@
 // A run: its joints, its threads, and its text.
-ghost use Rattle.std.specs.Prelude.{◌≡◌, ◌<◌, ◌≤◌, ◌^◌, IfOk};
-ghost use Rattle.record_lang.specs.Guards.{stop_code};
+ghost use Rattle.std.specs.Prelude.{◌≡◌, ◌<◌, ◌≤◌, ◌^◌, List, IfOk};
 ghost use Rattle.record_lang.specs.Pipelines.{HasJoints};
-ghost use Rattle.record_lang.specs.Records.{AreNumbered};
+ghost use Rattle.record_lang.specs.Records.{AreNumbered, Row};
 ghost use Rattle.stage_pipeline.specs.Made.{IsMade};
 ghost use Rattle.stage_pipeline.specs.Meetings.{HandsOn};
 ghost use Rattle.stage_pipeline.specs.Runs.{IsRan};
-ghost use Rattle.stage_pipeline.specs.Tellings.{HasRun};
+ghost use Rattle.stage_pipeline.specs.Tellings.{AreFed, HasRun};
 
 use crate::flow::{Start, flow_all};
 use crate::kits::Feed;
@@ -16,9 +15,9 @@ use crate::meetings::meetings_tell_runs;
 use crate::reports::ran_of;
 use crate::starts::{Starts, start_joints};
 use crate::summaries::summary_of;
-use ho_base::{Fault, NoMemory, Text};
+use ho_base::{NoMemory, Text};
 use ho_io::Gate;
-use record_lang::{Dropped, Outcome, Pipeline, Records};
+use record_lang::{Dropped, FedRows, Outcome, Pipeline, Records, rows_to_feed};
 use std::alloc::Global;
 use std::marker::Model;
 use std::sync::Wait;
@@ -66,12 +65,17 @@ pub(crate) struct Done {
     pub(crate) dropped: Vec<Dropped>,
 }
 
-// What holds of each pipeline and of all records. The function does nothing.
-fn tell_built(pipeline: &Pipeline, records: &Records)
-    ensures joints { HasJoints pipeline.now.stages pipeline.now.joints }
-    ensures numbered { AreNumbered records.now }
+// What holds of each pipeline. The function does nothing.
+fn tell_built(pipeline: &Pipeline)
+    ensures { HasJoints pipeline.now.stages pipeline.now.joints }
 {
     pipeline.stages();
+}
+
+// What holds of all records. The function does nothing.
+fn tell_numbered(records: &Records)
+    ensures { AreNumbered records.now }
+{
     records.as_slice();
 }
 
@@ -80,24 +84,21 @@ fn run_all<G: Gate, R: Wait + Threads + Sync>(
     rt: &R,
     alloc: Global,
     pipeline: &Pipeline,
-    records: Records,
+    fed: FedRows,
     workers: u32,
     gate: &G,
 ) -> Result<Done, NoMemory>
     requires workers { (1 ≤ workers) × (workers ≤ 16) }
-    ensures { IfOk result (HandsOn pipeline.now records workers) }
+    ensures { IfOk result (λ done. (rows : List Row) → AreFed pipeline.now rows fed → HandsOn pipeline.now rows workers done) }
 {
-    tell_built(pipeline, &records);
+    tell_built(pipeline);
     let Starts {
         joints,
         kits,
         feeds,
     } = start_joints(alloc, pipeline, workers)?;
     let ends = Vec::with_capacity(alloc, kits.len())?;
-    let feed = Feed {
-        records,
-        write: feeds,
-    };
+    let feed = Feed { fed, write: feeds };
     let start = Start { kits, feed, ends };
     let flow = flow_all(rt, alloc, pipeline, &joints, gate, start);
     gather(alloc, &joints, flow)
@@ -109,27 +110,16 @@ fn run_joints<G: Gate, R: Wait + Threads + Sync>(
     rt: &R,
     alloc: Global,
     pipeline: &Pipeline,
-    records: Records,
+    fed: FedRows,
     workers: u32,
     gate: &G,
 ) -> Result<Done, NoMemory>
     requires workers { (1 ≤ workers) × (workers ≤ 16) }
-    ensures { IfOk result (HasRun pipeline.now records workers) }
+    ensures { IfOk result (λ done. (rows : List Row) → AreNumbered rows → AreFed pipeline.now rows fed → HasRun pipeline.now rows workers done) }
 {
     meetings_tell_runs();
-    tell_built(pipeline, &records);
-    run_all(rt, alloc, pipeline, records, workers, gate)
-}
-
-// The code with which a run over these records ends.
-fn code_of(pipeline: &Pipeline, records: &Records) -> Option<Fault>
-    ensures { result ≡ stop_code pipeline.now.guard records.now }
-{
-    if pipeline.stops(records) {
-        pipeline.guard_code()
-    } else {
-        None
-    }
+    tell_built(pipeline);
+    run_all(rt, alloc, pipeline, fed, workers, gate)
 }
 
 /// Runs a pipeline over records on many threads: a feeder, and for each stage a crew of so many workers,
@@ -156,9 +146,10 @@ pub fn run_pipeline<G: Gate, R: Wait + Threads + Sync>(
     requires workers { (1 ≤ workers) × (workers ≤ 16) }
     ensures { IfOk result (IsRan pipeline.now records workers) }
 {
-    tell_built(pipeline, &records);
-    let code = code_of(pipeline, &records);
-    let done = run_joints(rt, alloc, pipeline, records, workers, gate)?;
+    tell_numbered(&records);
+    let fed = rows_to_feed(pipeline, records);
+    let code = fed.code;
+    let done = run_joints(rt, alloc, pipeline, fed, workers, gate)?;
     ran_of(alloc, pipeline, code, done)
 }
 
@@ -180,6 +171,8 @@ pub fn made_text<G: Gate, R: Wait + Threads + Sync>(
 {
     let records = made_records(alloc, count, seed)?;
     let pipeline = made_pipeline(alloc)?;
-    let done = run_joints(rt, alloc, &pipeline, records, workers, gate)?;
+    tell_numbered(&records);
+    let fed = rows_to_feed(&pipeline, records);
+    let done = run_joints(rt, alloc, &pipeline, fed, workers, gate)?;
     summary_of(alloc, done)
 }

@@ -211,8 +211,28 @@ fn unused(alloc: Global, seat: Seat) -> SeatEnd
     }
 }
 
-/// The work of so many workers, each in a thread of its own, which are all joined: their passes to what
-/// is left of the seat's.
+// The work of the last worker, in this thread: its pass is split off, and joined to what is left.
+fn work_last<G: Gate, R: Wait>(
+    rt: &R,
+    alloc: Global,
+    pipeline: &Pipeline,
+    joints: &[Channel<Record>],
+    gate: &G,
+    mut seat: Seat,
+) -> SeatEnd
+    requires { IsSeat (length pipeline.now.stages) joints.now 2 seat }
+    ensures ends { SeatEnds pipeline.now 1 seat result }
+    ensures told { TellsFault result }
+{
+    let stage = seat.stage;
+    let number = seat.number;
+    let other = split(joints, &mut seat, number);
+    let end = work_at(rt, alloc, pipeline, joints, gate, other);
+    take_in(joints, stage, unused(alloc, seat), end)
+}
+
+/// The work of so many workers, the first of them in this thread and each other one in a thread of its
+/// own, which are all joined: their passes to what is left of the seat's.
 #[cycle(workers)]
 pub(crate) fn work_all<G: Gate, R: Wait + Threads + Sync>(
     rt: &R,
@@ -223,12 +243,13 @@ pub(crate) fn work_all<G: Gate, R: Wait + Threads + Sync>(
     workers: u32,
     mut seat: Seat,
 ) -> SeatEnd
-    requires { IsSeat (length pipeline.now.stages) joints.now (workers + 1) seat }
+    requires some { 1 ≤ workers }
+    requires seat { IsSeat (length pipeline.now.stages) joints.now (workers + 1) seat }
     ensures ends { SeatEnds pipeline.now workers seat result }
-    ensures told { 1 ≤ workers → TellsFault result }
+    ensures told { TellsFault result }
 {
-    if workers == 0 {
-        return unused(alloc, seat);
+    if workers == 1 {
+        return work_last(rt, alloc, pipeline, joints, gate, seat);
     }
     let left = workers - 1;
     let stage = seat.stage;
@@ -241,7 +262,7 @@ pub(crate) fn work_all<G: Gate, R: Wait + Threads + Sync>(
             ensures { SeatEnds pipeline.entry.now 1 other result × TellsFault result }
         { work_at(rt, alloc, pipeline, joints, gate, other) },
         move || -> SeatEnd
-            requires { IsSync R.row × IsSync G.row × IsSeat (length pipeline.now.stages) joints.now (left + 1) seat }
+            requires { IsSync R.row × IsSync G.row × (1 ≤ left) × IsSeat (length pipeline.now.stages) joints.now (left + 1) seat }
             ensures { SeatEnds pipeline.entry.now left seat result }
         { work_all(rt, alloc, pipeline, joints, gate, left, seat) },
     );

@@ -10,7 +10,9 @@ use Rattle.stage_pipeline.proofs.runs.made_text.Goals as goal
 pub returns : goal.returns
 returns g c =
     let done = c.in_ok-done.done in
-    let rows = subst (λ (rows : List Row). HasRun c.in_ok-pipeline.pipeline rows c.args.workers done) c.in_ok-records.ensures c.in_ok-done.ensures in
+    let fed = c.rows_to_feed-fed.ensures in
+    let ran = c.in_ok-done.ensures c.in_ok-records.records c.tell_numbered.ensures (record { rows_are = fed.rows; code_is = fed.code }) in
+    let rows = subst (λ (rows : List Row). HasRun c.in_ok-pipeline.pipeline rows c.args.workers done) c.in_ok-records.ensures ran in
     let run = subst (λ (pipeline : Meaning). HasRun pipeline (made_rows c.args.count c.args.seed) c.args.workers done) c.in_ok-pipeline.ensures rows in
     IfOk-weaker c.summary_of.result
     (λ (ran : RanView). (count seed workers : ℕ) → HasRun made_meaning (made_rows count seed) workers done → IsMade count seed workers ran)

@@ -10,8 +10,10 @@ pub returns : goal.returns
 returns g c =
     let pipeline = c.args.pipeline.now in
     let done = c.in_ok-done.done in
+    let fed = c.rows_to_feed-fed.ensures in
+    let numbered = c.tell_numbered.ensures in
     IfOk-weaker c.ran_of.result
-    (λ (ran : RanView). (rows : List Row) (workers : ℕ) → AreNumbered rows → HasRun pipeline rows workers done → c.code_of-code.result ≡ stop_code pipeline.guard rows → IsRan pipeline rows workers ran)
+    (λ (ran : RanView). (rows : List Row) (workers : ℕ) → AreNumbered rows → HasRun pipeline rows workers done → c.rows_to_feed-fed.result.code ≡ stop_code pipeline.guard rows → IsRan pipeline rows workers ran)
     (IsRan pipeline c.args.records c.args.workers)
-    (λ ran h. h c.args.records c.args.workers c.tell_built.ensures.numbered c.in_ok-done.ensures c.code_of-code.ensures)
+    (λ ran h. h c.args.records c.args.workers numbered (c.in_ok-done.ensures c.args.records numbered (record { rows_are = fed.rows; code_is = fed.code })) fed.code)
     c.ran_of.ensures
