@@ -1,25 +1,24 @@
 -- What was played, put in the order of places.
-use Rattle.std.proofs.Common.{◌≡◌, ◌≢◌, ◌<◌, ◌≤◌, ◌+◌, ◌++◌, ◌∙◌, ℕ, zero, suc, List, [], ◌∷◌, length, map, max, fold, get_or, eqb, cond, slice_get, All, Bool, true, false, Some, None, ltb, ◌==◌, inl, inr, refl, sym, ap, subst, arith}
+use Rattle.std.proofs.Common.{◌≡◌, ◌<◌, ◌≤◌, ◌+◌, ◌∙◌, ℕ, zero, suc, List, [], ◌∷◌, length, map, max, fold, get_or, eqb, cond, slice_get, All, Bool, false, Some, ltb, ◌==◌, inl, inr, refl, sym, ap, subst, arith}
 use Rattle.std.specs.List.{Contains}
-use Rattle.std.specs.List.Sorted.{IsPermutation}
 use Rattle.std.proofs.lemmas.Bool.{cases_Bool}
 use Rattle.std.proofs.lemmas.Bool.Decides.{nat_tests}
 use Rattle.std.proofs.lemmas.List.{length-map, get_or-map}
 use Rattle.std.proofs.lemmas.List.Elements.{All-from_recursion, All-contains, Contains-get_or}
 use Rattle.std.proofs.lemmas.List.Sorted.{All-permutation, Contains-permutation, length_permutation}
-use Rattle.std.proofs.lemmas.Option.{same_Some, none-some, slice_get_within, slice_get-get_or, get_or_from_slice_get}
+use Rattle.std.proofs.lemmas.Option.{same_Some, none-some, slice_get_within, get_or_from_slice_get}
 use Rattle.ho_base.specs.Marks.{number_priority}
 use Rattle.ho_model.specs.declared.marks.CallMark.{CallMark}
 use Rattle.ho_model.specs.declared.marks.EntryMark.{EntryMark}
 use Rattle.ho_model.specs.declared.objects.Object.{Object}
 use Rattle.ho_model.specs.declared.histories.Call.{Call}
 use Rattle.ho_model.specs.declared.histories.Entry.{Entry}
-use Rattle.ho_model.specs.Histories.{IsLegal, part}
+use Rattle.ho_model.specs.Histories.{IsLegal}
 use Rattle.ho_model.specs.Written.{call_of, entry_of, history_of}
 use Rattle.ho_model.proofs.Written.{calls_are_told}
 use Rattle.passes.specs.Numbers.{HasNumber, HasAll}
 use Rattle.passes.specs.Places.{Placed, StandsAt, own_places}
-use Rattle.passes.specs.Seen.{AreBelow, own_of}
+use Rattle.passes.specs.Seen.{AreBelow}
 use Rattle.passes.proofs.Owned.{own_of-whole}
 use Rattle.passes.proofs.Places.{own_places-entries, own_places-stand}
 use Rattle.passes.proofs.Starts.{first_whole}
@@ -28,7 +27,7 @@ use Rattle.drive_kit.specs.Calls.{kind_of}
 use Rattle.drive_kit.specs.Checks.{IsWhole, calls_in_part}
 use Rattle.drive_kit.specs.Ordering.{EachFits, TakesAll, IsInOrder}
 use Rattle.drive_kit.specs.Plans.{IsRowOf, Plan, calls_by, callers_of}
-use Rattle.drive_kit.specs.Driving.{HasSeen, IsDriven, IsShown, IsWholePass}
+use Rattle.drive_kit.specs.Driving.{HasSeen, IsDriven, IsPassOf, IsShown, IsWholePass}
 use Rattle.drive_kit.specs.Playing.{HasPlayed, IsFirst, IsOf, IsPlayed, MayPlay, calls_seen, pass_of, placed_of}
 use Rattle.drive_kit.specs.declared.calls.Kind.{Kind}
 use Rattle.drive_kit.specs.declared.callers.PlacedEntry.{PlacedEntry}
@@ -195,6 +194,20 @@ shown plan h (stand.Blocking table) (driven.Queue p) of whole seen = absurd of
 shown plan h (stand.Queue table) (driven.Queue p) of whole seen = absurd of
 shown plan h (stand.Bag table) (driven.Queue p) of whole seen = absurd of
 
+of_kind : (on : Stand) (pass : DrivenPass) → IsOf on pass → IsPassOf (kind_of (pass_of pass).object) pass
+of_kind (stand.Channel table) (driven.Turn p) of = subst (λ (k : Kind). IsPassOf k (driven.Turn p)) (sym of.1) tt
+of_kind (stand.Blocking table) (driven.Turn p) of = subst (λ (k : Kind). IsPassOf k (driven.Turn p)) (sym of.1) tt
+of_kind (stand.Queue table) (driven.Turn p) of = subst (λ (k : Kind). IsPassOf k (driven.Turn p)) (sym of.1) tt
+of_kind (stand.Bag table) (driven.Bag p) of = subst (λ (k : Kind). IsPassOf k (driven.Bag p)) (sym of.1) tt
+of_kind (stand.Channel table) (driven.Queue p) of = absurd of
+of_kind (stand.Channel table) (driven.Bag p) of = absurd of
+of_kind (stand.Blocking table) (driven.Queue p) of = absurd of
+of_kind (stand.Blocking table) (driven.Bag p) of = absurd of
+of_kind (stand.Queue table) (driven.Queue p) of = absurd of
+of_kind (stand.Queue table) (driven.Bag p) of = absurd of
+of_kind (stand.Bag table) (driven.Turn p) of = absurd of
+of_kind (stand.Bag table) (driven.Queue p) of = absurd of
+
 module _ (plan : Plan) (n : ℕ) (count_is : n ≡ callers_of plan.rows) (p : LockPass) (first : IsFirst plan.object n p) (on : Stand) (played : Played) (h : IsPlayed on plan.rows p played) where
   abbrev q : LockPass
   q = pass_of played.pass
@@ -221,5 +234,6 @@ module _ (plan : Plan) (n : ℕ) (count_is : n ≡ callers_of plan.rows) (p : Lo
         record {
           legal = subst (λ (z : Object × List EntryMark). IsLegal number_priority z.0 z.1) (λ i. (object_is i, seen i)) has.lawful.0;
           whole = whole_of plan history q made has holds_all (callers_are ∙ count_is) seen;
+          kind = subst (λ (o : Object). IsPassOf (kind_of o) played.pass) object_is (of_kind on played.pass h.of);
           shown = shown plan history on played.pass h.of (record { object = object_is; callers = callers_are ∙ count_is; whole = holds_all }) seen;
         }

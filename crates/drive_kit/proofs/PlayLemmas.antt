@@ -1,12 +1,12 @@
 -- Rows played, and what workers leave taken in.
-use Rattle.std.proofs.Common.{◌≡◌, ◌≢◌, ◌<◌, ◌≤◌, ◌+◌, ◌++◌, ◌∙◌, ◌==◌, ℕ, zero, suc, List, [], ◌∷◌, length, take, map, get_or, eqb, cond, All, Bool, true, false, Result, Ok, Err, IfOk, Vec, Global, refl, sym, ap, subst, arith, append_assoc, append-nil}
+use Rattle.std.proofs.Common.{◌≡◌, ◌≢◌, ◌<◌, ◌+◌, ◌++◌, ◌∙◌, ℕ, List, [], ◌∷◌, length, take, map, get_or, eqb, cond, All, Bool, true, false, Result, Ok, Err, IfOk, Vec, Global, refl, sym, ap, subst, arith, append-nil}
 use mathlib.Core.Logic.{dite}
 use native.Mathlib.Decide.{ℕ_discrete}
 use Rattle.std.specs.List.Sorted.{IsPermutation}
 use Rattle.std.proofs.lemmas.Bool.Decides.{nat_tests}
 use Rattle.std.proofs.lemmas.List.{map_push, map-append, take_more}
 use Rattle.std.proofs.lemmas.List.Sorted.{IsPermutation-refl, IsPermutation-trans, IsPermutation-cons, IsPermutation-sym, IsPermutation-middle, IsPermutation-append, IsPermutation-append_left}
-use Rattle.ho_base.specs.Marks.{Mark, number_priority}
+use Rattle.ho_base.specs.Marks.{number_priority}
 use Rattle.ho_base.specs.declared.memory.NoMemory.{NoMemory}
 use Rattle.ho_base.specs.declared.receipts.Receipt.{Receipt}
 use Rattle.ho_base.specs.declared.receipts.Receipt.TheVariants.{Place}
@@ -14,13 +14,12 @@ use Rattle.ho_model.specs.declared.marks.CallMark.{CallMark}
 use Rattle.ho_model.specs.declared.marks.EntryMark.{EntryMark}
 use Rattle.ho_model.specs.declared.objects.Object.{Object}
 use Rattle.ho_model.specs.declared.histories.Call.{Call}
-use Rattle.ho_model.specs.declared.histories.Entry.{Entry}
 use Rattle.ho_model.specs.Histories.{part}
 use Rattle.ho_model.specs.Objects.{empty_state}
 use Rattle.ho_model.specs.Written.{call_of, entry_of}
-use Rattle.passes.specs.Numbers.{HasNumber, AreApart, IsSpare, held_count, held_both, give, only}
+use Rattle.passes.specs.Numbers.{HasNumber, AreApart, held_count, held_both, give, only}
 use Rattle.passes.specs.Places.{Placed, own_places}
-use Rattle.passes.specs.Seen.{SeesOthers, SeesEntry, IsLawful}
+use Rattle.passes.specs.Seen.{SeesEntry, IsLawful}
 use Rattle.passes.specs.Calls.{IsSamePass, Splits, Joins}
 use Rattle.passes.proofs.Flags.{by_flag, flag_else, only_one, only_has, held_both_at, both_left, both_right, both_up, held_count-give, held_count-some}
 use Rattle.passes.proofs.Owned.{part-sees, part-entry}

@@ -1,5 +1,5 @@
 -- What playing the rows of a script leaves of the pass: p before, and q after.
-use Rattle.std.specs.Prelude.{◌≡◌, ◌<◌, ◌++◌, ℕ, List, [], ◌∷◌, All, Bool, true, false, length, map, ⊤, Vec, Result, Ok, Err, IfOk}
+use Rattle.std.specs.Prelude.{◌≡◌, ◌++◌, ℕ, List, [], ◌∷◌, All, Bool, true, false, length, map, ⊤, Vec, Result, Ok, Err, IfOk}
 use Rattle.std.specs.declared.alloc.Global.{Global}
 use Rattle.std.specs.List.Sorted.{IsPermutation}
 use Rattle.atomic_table.specs.Seated.{TableId}
@@ -12,7 +12,6 @@ use Rattle.ho_model.specs.declared.marks.ReplyMark.{ReplyMark}
 use Rattle.ho_model.specs.declared.marks.ReplyMark.TheVariants.{Item, Shown}
 use Rattle.ho_model.specs.declared.objects.Object.{Object}
 use Rattle.ho_model.specs.declared.histories.Call.{Call}
-use Rattle.ho_model.specs.declared.histories.Entry.{Entry}
 use Rattle.ho_model.specs.declared.histories.Reply.{Reply}
 use Rattle.ho_model.specs.Histories.{part}
 use Rattle.ho_model.specs.Written.{call_of, entry_of}

@@ -1,5 +1,5 @@
 // The callers of a script, side by side, each played by a worker of its own.
-ghost use Rattle.std.specs.Prelude.{◌≡◌, IfOk};
+ghost use Rattle.std.specs.Prelude.{◌≡◌, ◌↔◌, IfOk, IsTrue};
 ghost use Rattle.std.specs.Thread.{IsSync};
 ghost use Rattle.ho_base.specs.Marks.{number_priority};
 ghost use Rattle.ho_base.specs.declared.receipts.Receipt.TheVariants.{Place};
@@ -67,6 +67,13 @@ fn play_call<R: Wait>(
     })
 }
 
+// Whether a row is that of the pass's caller.
+fn is_own(pass: &DrivenPass, row: ScriptRow) -> bool
+    ensures { IsTrue result ↔ (row.caller ≡ (pass_of pass.now).caller) }
+{
+    row.caller == caller_of(pass)
+}
+
 // Plays a row, if it is that of the pass's caller. The gate comes before the call.
 fn play_row<G: Gate, R: Wait>(
     rt: &R,
@@ -85,11 +92,10 @@ fn play_row<G: Gate, R: Wait>(
     ensures same { IsSamePass (pass_of pass.old) (pass_of pass.new) }
     ensures played { IfOk result (λ _. PlaysRow row (pass_of pass.old) made.old.items (pass_of pass.new) made.new.items) }
 {
-    let caller = caller_of(pass);
-    if row.caller != caller {
+    if !is_own(pass, row) {
         return Ok(());
     }
-    gate.at(rt, caller, made.len() as u64);
+    gate.at(rt, row.caller, made.len() as u64);
     let entry = play_call(rt, alloc, stand, pass, row.call)?;
     made.push(entry)?;
     Ok(())

@@ -27,10 +27,11 @@ fn caller_count(script: &Script) -> u32
 /// and a worker, which makes the caller's calls in the order of their rows.
 ///
 /// The history is legal for the object, and each caller's part of it has just the calls of that
-/// caller's rows, each once, in order. The pass is the whole pass of the object that was played on, and
-/// shows the history. The gate is called before each call on the object, with the caller and the count
-/// of its calls before. For want of memory all workers are joined first, and nothing is left behind;
-/// calls may have been made by then.
+/// caller's rows, each once, in order. The pass is the whole pass of the object that was played on, a
+/// [`DrivenPass::Bag`] for a bag and a [`DrivenPass::Turn`] for every other object, and shows the
+/// history. The gate is called before each call on the object, with the caller and the count of its
+/// calls before. For want of memory all workers are joined first, and nothing is left behind; calls may
+/// have been made by then.
 ///
 /// Each worker looks at each row. Beside that it takes the time of the calls, and memory for a few
 /// entries a row.

@@ -3,6 +3,7 @@ use super::repeated;
 use crate::{Checked, check_history, drive_script, history_text, parse_script};
 use ho_base::NoMemory;
 use ho_io::{Gate, OpenGate};
+use ho_model::Entry;
 use pauses::Pause;
 use std::alloc::Global;
 use std::sync::Wait;
@@ -97,6 +98,28 @@ fn one_caller_plays_a_bounded_channel(rt: HostRuntime) -> Result<(), Fail> {
 }
 
 #[test]
+fn one_caller_plays_channels_that_drop(rt: HostRuntime) -> Result<(), Fail> {
+    let table = [
+        (
+            b"bounded,2,dropoldest\n0,write,1\n0,write,2\n0,write,3\n0,begin-write,4\n0,count\n0,begin-look-write\n0,peek\n0,read\n0,read\n0,read\n0,complete,7\n0,write,5\n".as_slice(),
+            b"0,0,write,1,done\n1,0,write,2,done\n2,0,write,3,done,dropped,1\n3,0,begin-write,4,done,dropped,2\n4,0,count,,count,2\n5,0,begin-look-write,,ready,1\n6,0,peek,,item,3\n7,0,read,,item,3\n8,0,read,,item,4\n9,0,read,,empty\n10,0,complete,7,yes\n11,0,write,5,refused,7,5\n".as_slice(),
+        ),
+        (
+            b"bounded,2,dropwrite\n0,write,1\n0,write,2\n0,write,3\n0,begin-write,4\n0,begin-look-write\n0,read\n0,write,5\n0,read\n0,read\n0,begin-read\n0,write,6\n0,poll,2\n".as_slice(),
+            b"0,0,write,1,done\n1,0,write,2,done\n2,0,write,3,done,dropped,3\n3,0,begin-write,4,done,dropped,4\n4,0,begin-look-write,,ready,1\n5,0,read,,item,1\n6,0,write,5,done\n7,0,read,,item,2\n8,0,read,,item,5\n9,0,begin-read,,waiting,2\n10,0,write,6,done\n11,0,poll,2,item,6\n".as_slice(),
+        ),
+        (
+            b"bounded,1,dropnewest\n0,write,1\n0,begin-write,2\n0,count\n0,read\n0,complete,0\n0,begin-write,3\n0,read\n".as_slice(),
+            b"0,0,write,1,done\n1,0,begin-write,2,done,dropped,1\n2,0,count,,count,1\n3,0,read,,item,2\n4,0,complete,0,yes\n5,0,begin-write,3,refused,0,3\n6,0,read,,closed,0\n".as_slice(),
+        ),
+    ];
+    for (script, text) in table {
+        assert!(rt; is_driven(&rt, rt.alloc(), script, text)?, "{script:?}");
+    }
+    Ok(())
+}
+
+#[test]
 fn one_caller_plays_other_objects(rt: HostRuntime) -> Result<(), Fail> {
     let table = [
         (
@@ -118,6 +141,18 @@ fn one_caller_plays_other_objects(rt: HostRuntime) -> Result<(), Fail> {
     Ok(())
 }
 
+// Waits until a count is as high as this, and tells whether it came to be.
+fn reaches<R: Wait>(rt: &R, count: &AtomicU64, least: u64) -> bool {
+    let mut pause = Pause::new();
+    for _ in 0..MOST_LOOKS {
+        if count.load(Ordering::SeqCst) >= least {
+            return true;
+        }
+        pause.take(rt);
+    }
+    false
+}
+
 /// Lets a worker go on only once both have come, before their first calls.
 #[derive(Drop)]
 struct Meeting {
@@ -131,14 +166,9 @@ impl Gate for Meeting {
             return;
         }
         self.came.fetch_add(1, Ordering::SeqCst);
-        let mut pause = Pause::new();
-        for _ in 0..MOST_LOOKS {
-            if self.came.load(Ordering::SeqCst) >= 2 {
-                return;
-            }
-            pause.take(rt);
+        if !reaches(rt, &self.came, 2) {
+            self.missed.store(1, Ordering::SeqCst);
         }
-        self.missed.store(1, Ordering::SeqCst);
     }
 }
 
@@ -178,6 +208,76 @@ fn the_gate_comes_before_each_call(rt: HostRuntime) -> Result<(), Fail> {
     assert_eq!(rt; judged(&rt, rt.alloc(), script, &gate)?, legal(5));
     assert_eq!(rt; gate.calls.load(Ordering::SeqCst), 5);
     assert_eq!(rt; gate.turns.load(Ordering::SeqCst), 4);
+    Ok(())
+}
+
+/// How often caller 1 waits for caller 0.
+const ROUNDS: u64 = 20;
+
+/// Lets caller 0 and caller 1 make their calls by turns. Caller 0 is a call ahead, and its first call
+/// waits for caller 1 to come: so workers that came after their calls, and not before, would make
+/// another history.
+#[derive(Drop)]
+struct Alternating {
+    ahead: AtomicU64,
+    behind: AtomicU64,
+    missed: AtomicU64,
+}
+
+impl Alternating {
+    fn new() -> Alternating {
+        Alternating {
+            ahead: AtomicU64::new(0),
+            behind: AtomicU64::new(0),
+            missed: AtomicU64::new(0),
+        }
+    }
+}
+
+impl Gate for Alternating {
+    fn at<R: Wait>(&self, rt: &R, worker: u32, turn: u64) {
+        let came = turn.saturating_add(1);
+        let met = if worker == 0 {
+            self.ahead.store(came, Ordering::SeqCst);
+            reaches(rt, &self.behind, turn.max(1))
+        } else {
+            self.behind.store(came, Ordering::SeqCst);
+            turn >= ROUNDS || reaches(rt, &self.ahead, turn.saturating_add(3))
+        };
+        if !met {
+            self.missed.store(1, Ordering::SeqCst);
+        }
+    }
+}
+
+// Who calls at this place of the history.
+fn caller_in_turn(place: usize) -> u32 {
+    if place > 0 && place % 2 == 0 { 1 } else { 0 }
+}
+
+// Whether the callers stand by turns, up to the last calls, which nothing holds back.
+fn are_in_turn(entries: &[Entry]) -> bool {
+    for (place, entry) in entries.iter().enumerate() {
+        if place < 41 && entry.caller != caller_in_turn(place) {
+            return false;
+        }
+    }
+    true
+}
+
+#[test]
+fn the_gate_holds_each_caller_back_at_each_turn(rt: HostRuntime) -> Result<(), Fail> {
+    let alloc = rt.alloc();
+    let text = repeated(alloc, b"queue,8,2\n0,enq,7\n", b"0,enq,8\n1,deq\n", 21)?;
+    let Ok(script) = parse_script(alloc, &text) else {
+        assert!(rt; false);
+        return Ok(());
+    };
+    let gate = Alternating::new();
+    let (history, _) = drive_script(&rt, alloc, &script, &gate)?;
+    assert_eq!(rt; history.entries().len(), 43);
+    assert!(rt; are_in_turn(history.entries()));
+    assert_eq!(rt; gate.missed.load(Ordering::SeqCst), 0);
     Ok(())
 }
 

@@ -1,4 +1,4 @@
-use Rattle.std.proofs.Common.{rules, ◌≡◌, ◌<◌, arith}
+use Rattle.std.proofs.Common.{rules, ◌<◌, arith}
 use Rattle.passes.specs.Numbers.{held_count}
 use Rattle.drive_kit.specs.Playing.{pass_of}
 use Rattle.drive_kit.proofs.PlayLemmas.{all_played, fewer_left, given_one, none_to_spare, other_may, rest_may}

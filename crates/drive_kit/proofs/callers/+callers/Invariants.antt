@@ -1,4 +1,4 @@
-use Rattle.std.proofs.Common.{ℕ, ◌+◌, ◌*◌}
+use Rattle.std.proofs.Common.{◌+◌, ◌*◌}
 use Rattle.passes.specs.Numbers.{held_count}
 use Rattle.drive_kit.specs.Playing.{pass_of}
 use Rattle.drive_kit.proofs.callers.+callers.Given as goal

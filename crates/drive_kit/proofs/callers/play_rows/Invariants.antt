@@ -1,4 +1,4 @@
-use Rattle.std.proofs.Common.{◌≡◌, take}
+use Rattle.std.proofs.Common.{take}
 use Rattle.passes.specs.Calls.{IsSamePass}
 use Rattle.drive_kit.specs.Playing.{HasPlayed, IsOf, pass_of}
 use Rattle.drive_kit.proofs.callers.play_rows.Given as goal

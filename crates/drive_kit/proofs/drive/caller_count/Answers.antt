@@ -1,6 +1,6 @@
-use Rattle.std.proofs.Common.{◌≡◌, ◌<◌, ◌≤◌, ℕ, All, List, sym, subst}
+use Rattle.std.proofs.Common.{◌<◌, ◌≤◌, ℕ, All, List, sym, subst}
 use Rattle.drive_kit.specs.Calls.{kind_of}
-use Rattle.drive_kit.specs.Plans.{IsRowOf, callers_of}
+use Rattle.drive_kit.specs.Plans.{IsRowOf}
 use Rattle.drive_kit.specs.declared.scripts.ScriptRow.{ScriptRow}
 use Rattle.drive_kit.proofs.DriveLemmas.{callers_within}
 use Rattle.drive_kit.proofs.drive.caller_count.Goals as goal

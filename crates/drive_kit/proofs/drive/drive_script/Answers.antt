@@ -1,4 +1,4 @@
-use Rattle.std.proofs.Common.{◌≡◌, IfOk, Result, List, sym, subst}
+use Rattle.std.proofs.Common.{IfOk, List, sym, subst}
 use Rattle.drive_kit.specs.Playing.{HasPlayed, IsFirst, IsPlayed, pass_of}
 use Rattle.drive_kit.specs.declared.scripts.ScriptRow.{ScriptRow}
 use Rattle.ho_model.specs.declared.objects.Object.{Object}

@@ -1,4 +1,4 @@
-use Rattle.std.proofs.Common.{◌≡◌, ◌++◌, ◌∷◌, ◌∙◌, [], None, List, Option, ap}
+use Rattle.std.proofs.Common.{◌++◌, ◌∷◌, ◌∙◌, [], None, List, Option, ap}
 use Rattle.ho_model.specs.declared.histories.Entry.{Entry}
 use Rattle.drive_kit.proofs.OrderLemmas.{free_more}
 use Rattle.drive_kit.proofs.ordering.free_places.Goals as goal

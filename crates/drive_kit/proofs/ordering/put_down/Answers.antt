@@ -1,5 +1,4 @@
-use Rattle.std.proofs.Common.{rules, arith, ◌≡◌, ◌<◌, ◌∙◌, [], Some, List, Option, length, set, replicate, sym, ap, subst}
-use Rattle.ho_model.specs.declared.histories.Entry.{Entry}
+use Rattle.std.proofs.Common.{rules, arith, ◌≡◌, ◌<◌, ◌∙◌, [], List, length, replicate, sym, ap, subst}
 use Rattle.drive_kit.specs.declared.callers.PlacedEntry.{PlacedEntry}
 use Rattle.drive_kit.proofs.OrderLemmas.{PutSoFar, no_entry, none_put, one_put, place_inside, put_down_all}
 use Rattle.drive_kit.proofs.ordering.put_down.Goals as goal

@@ -1,4 +1,4 @@
-use Rattle.std.proofs.Common.{◌≡◌, length}
+use Rattle.std.proofs.Common.{length}
 use Rattle.drive_kit.proofs.OrderLemmas.{PutSoFar}
 use Rattle.drive_kit.proofs.ordering.put_down.Given as goal
 

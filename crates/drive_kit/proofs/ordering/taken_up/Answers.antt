@@ -1,4 +1,4 @@
-use Rattle.std.proofs.Common.{◌≡◌, ◌<◌, ◌++◌, ◌∷◌, ◌∙◌, ◌+◌, [], Some, List, Option, length, set, sym, ap, subst, arith}
+use Rattle.std.proofs.Common.{◌<◌, ◌∙◌, ◌+◌, Some, List, Option, length, set, sym, ap, subst, arith}
 use Rattle.std.proofs.lemmas.Option.{none-some}
 use Rattle.ho_model.specs.declared.histories.Entry.{Entry}
 use Rattle.drive_kit.proofs.OrderLemmas.{TakenSoFar, next_entry, one_taken}

@@ -1,4 +1,3 @@
-use Rattle.std.proofs.Common.{◌≡◌}
 use Rattle.drive_kit.proofs.OrderLemmas.{TakenSoFar}
 use Rattle.drive_kit.proofs.ordering.taken_up.Given as goal
 
