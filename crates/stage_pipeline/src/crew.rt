@@ -33,8 +33,9 @@ fn complete_next<R: Wait>(
     Some(complete(rt, joint_of(joints, index, &pass), pass, fault))
 }
 
-/// Works off what the kit's joint gives, by as many workers as the kit says, each in a thread of its own,
-/// and then completes the next joint with the fault that they were told. To start them takes no memory.
+/// Works off what the kit's joint gives, by as many workers as the kit says, the first of them in this
+/// thread and each other one in a thread of its own, and then completes the next joint with the fault that
+/// they were told. To start them takes no memory.
 ///
 /// Worker i of stage j calls the gate with the number (j - 1) times the workers plus i. A worker without
 /// memory drains its joint, so that the crew completes the next one all the same.
