@@ -1,120 +1,109 @@
--- What the top call answers, and what it has written then.
-use Rattle.std.specs.Prelude.{◌≡◌, ◌≤◌, ◌+◌, ◌∷◌, [], ℕ, List, ⊤, length, Option, Some, None, IsSome}
-use Rattle.ho_io.specs.Counts.{counted}
-use Rattle.ho_io.specs.Whole.{TookFirst, bytes_within}
-use Rattle.record_cli.specs.Check.{CheckFailed, IsCheckAnswer, IsThis, check_given, check_idle}
-use Rattle.record_cli.specs.Commands.{command_of}
-use Rattle.record_cli.specs.Plain.{Answer, PlainFailed, not_built, plain_answer, plain_given, plain_idle, usage}
-use Rattle.record_cli.specs.declared.computed.Computed.{Computed}
-use Rattle.record_cli.specs.declared.computed.Computed.TheVariants as computed
-use Rattle.record_cli.specs.declared.commands.Command.{Command}
-use Rattle.record_cli.specs.declared.commands.Command.TheVariants.{Plain, Drive, Check}
+-- What a command answers.
+use Rattle.std.specs.Prelude.{◌≡◌, ⊤, ℕ, List, [], ◌∷◌, Bool, true, false, length, nat_le, codes, decimal, Option, Some, None, Result, Ok, Err, if◌then◌else◌}
+use Rattle.text_rows.specs.Written.{text_of_row}
+use Rattle.drive_kit.specs.Causes.{and_then}
+use Rattle.record_cli.specs.Reading.{Files}
+use Rattle.record_cli.specs.declared.answer.Answer.{Answer as Computed}
+use Rattle.record_cli.specs.declared.answer.Row.{Row}
+use Rattle.record_cli.specs.declared.finished.Shown.{Shown}
+use Rattle.record_cli.specs.declared.finished.Shown.TheVariants as show
 use Rattle.record_cli.specs.declared.status.Status.{Status}
 use Rattle.record_cli.specs.declared.status.Status.TheVariants as status
+use Rattle.record_cli.specs.declared.stopped.Stopped.{Stopped}
+use Rattle.record_cli.specs.declared.stopped.Stopped.TheVariants as stopped
+use Rattle.record_cli.specs.declared.told.Told.{Told}
+use Rattle.record_cli.specs.declared.told.Told.TheVariants as told
 
--- the answer of a command with its words, where the files are these
-abbrev pub IsCommandAnswer : (List ℕ → Option (List ℕ)) → Option Command → List (List ℕ) → Answer → Type 0
-IsCommandAnswer files None words answer = IsThis usage answer
-IsCommandAnswer files (Some Plain) (word ∷ pipe ∷ file ∷ []) answer = IsThis (plain_answer files pipe file) answer
-IsCommandAnswer files (Some Check) (word ∷ script ∷ history ∷ []) answer = IsCheckAnswer files script history answer
-IsCommandAnswer files (Some other) words answer = IsThis not_built answer
+-- a status, the text that is written with it, and what is shown beside
+pub record Answer : Type 0 where
+  pub status : Status
+  pub text : List ℕ
+  pub shown : Shown
 
--- the answer for the words, where the files are these
-abbrev pub IsWordsAnswer : (List ℕ → Option (List ℕ)) → List (List ℕ) → Answer → Type 0
-IsWordsAnswer files words answer = IsCommandAnswer files (command_of words) words answer
+-- this answer is that one
+pub record IsThis (expected answer : Answer) : Type 0 where
+  pub status : answer.status ≡ expected.status
+  pub text : answer.text ≡ expected.text
+  pub shown : answer.shown ≡ expected.shown
 
--- the most bytes that a command reads, whatever the files are
-abbrev pub most_given : Option Command → ℕ
-most_given (Some Plain) = 65537 + 16777217
-most_given (Some Check) = 4194305 + 67108865
-most_given (Some Drive) = 4194305
-most_given other = 0
+-- an answer of one row
+abbrev pub one_row : Status → List (List ℕ) → Answer
+one_row status fields = record { status = status; text = text_of_row fields; shown = show.Nothing }
 
--- the most bytes that a command with its words reads, where the files are these
-abbrev pub command_given : (List ℕ → Option (List ℕ)) → Option Command → List (List ℕ) → ℕ
-command_given files (Some Plain) (word ∷ pipe ∷ file ∷ []) = plain_given files pipe file
-command_given files (Some Check) (word ∷ script ∷ history ∷ []) = check_given files script history
-command_given files (Some Drive) (word ∷ script ∷ []) = bytes_within 4194304 (files script)
-command_given files command words = 0
+abbrev pub usage : Answer
+usage = one_row status.Usage (codes "usage" ∷ [])
 
--- the most bytes that are read for the words, where the files are these
-abbrev pub words_given : (List ℕ → Option (List ℕ)) → List (List ℕ) → ℕ
-words_given files words = command_given files (command_of words) words
+abbrev pub missing : List ℕ → Answer
+missing name = one_row status.Missing (codes "missing" ∷ name ∷ [])
 
--- the most fetches that give no byte, in a command with its words, where the files are these
-abbrev pub command_idle : (List ℕ → Option (List ℕ)) → Option Command → List (List ℕ) → ℕ
-command_idle files (Some Plain) (word ∷ pipe ∷ file ∷ []) = plain_idle files pipe
-command_idle files (Some Check) (word ∷ script ∷ history ∷ []) = check_idle files script
-command_idle files (Some Drive) (word ∷ script ∷ []) = 1
-command_idle files command words = 0
+abbrev pub too_large : List ℕ → Answer
+too_large name = one_row status.TooLarge (codes "large" ∷ name ∷ [])
 
--- the most fetches that give no byte for the words, where the files are these
-abbrev pub words_idle : (List ℕ → Option (List ℕ)) → List (List ℕ) → ℕ
-words_idle files words = command_idle files (command_of words) words
+abbrev pub refused_place : List ℕ → ℕ → ℕ → Answer
+refused_place name place cause = one_row status.SpecRefused (codes "spec" ∷ name ∷ decimal place ∷ decimal cause ∷ [])
 
--- the fetch that failed in a command with its words was in turn, where the files are these
-abbrev pub CommandFailed : (List ℕ → Option (List ℕ)) → Option Command → List (List ℕ) → Option (List ℕ) → Type 0
-CommandFailed files (Some Plain) (word ∷ pipe ∷ file ∷ []) failing = PlainFailed files pipe file failing
-CommandFailed files (Some Check) (word ∷ script ∷ history ∷ []) failing = CheckFailed files script history failing
-CommandFailed files (Some Drive) (word ∷ script ∷ []) failing = (failing ≡ Some script) × IsSome (files script)
-CommandFailed files command words failing = ⊥
+abbrev pub refused_row : ℕ → ℕ → Answer
+refused_row row cause = one_row status.InputRefused (codes "input" ∷ decimal row ∷ decimal cause ∷ [])
 
--- the fetch that failed for the words was in turn, where the files are these
-abbrev pub FailedInTurn : (List ℕ → Option (List ℕ)) → List (List ℕ) → Option (List ℕ) → Type 0
-FailedInTurn files words failing = CommandFailed files (command_of words) words failing
+-- the answer for what is not refused; what is refused is answered by its refusal
+abbrev pub IsAnswerOf : {X : Type 0} → (X → Answer → Type 0) → Result X Answer → Answer → Type 0
+IsAnswerOf Answers (Ok x) answer = Answers x answer
+IsAnswerOf Answers (Err refusal) answer = IsThis refusal answer
 
--- this answer was computed, unless a file could not be read or there was no memory
-abbrev pub IsComputed : Answer → Computed → Type 0
-IsComputed answer (computed.Answer given) = (given.status ≡ answer.status) × (given.text ≡ answer.text)
-IsComputed answer computed.ReadFault = ⊤
-IsComputed answer computed.NoMemory = ⊤
+-- it is refused, and this is the refusal
+abbrev pub IsRefused : {X : Type 0} → Result X Answer → Answer → Type 0
+IsRefused (Ok x) answer = ⊥
+IsRefused (Err refusal) answer = IsThis refusal answer
 
--- an answer of which this holds was computed, unless a file could not be read or there was no memory
-abbrev pub Computes : (Answer → Type 0) → Computed → Type 0
-Computes P (computed.Answer given) = P (record { status = given.status; text = given.text })
-Computes P computed.ReadFault = ⊤
-Computes P computed.NoMemory = ⊤
+-- the bytes of a file that is there and within its limit
+abbrev pub file_of : ℕ → List ℕ → Option (List ℕ) → Result (List ℕ) Answer
+file_of limit name None = Err (missing name)
+file_of limit name (Some bytes) = if nat_le (length bytes) limit then Ok bytes else Err (too_large name)
 
--- how many fetches failed, after an answer was computed: one more where a file could not be read
-abbrev pub computed_faults : ℕ → Computed → ℕ
-computed_faults before (computed.Answer given) = before
-computed_faults before computed.ReadFault = counted before 1
-computed_faults before computed.NoMemory = before
+-- what a file means, and then a second one beside it: the first is judged wholly before the second
+abbrev pub two_files : {A B : Type 0} → Files → List ℕ → ℕ → (List ℕ → Result A Answer) → List ℕ → ℕ → (A → List ℕ → Result B Answer) → Result B Answer
+two_files files first limit meaning second second_limit meaning_beside =
+    and_then (and_then (file_of limit first (files first)) meaning) (λ a. and_then (file_of second_limit second (files second)) (meaning_beside a))
 
--- the answer's status, with its whole text written
-abbrev pub IsWhole : Answer → Option (List ℕ) → Option (List ℕ) → Status → Type 0
-IsWhole answer before after s = (s ≡ answer.status) × TookFirst before after answer.text (length answer.text)
+-- the text of what is told, and what is shown beside
+abbrev pub text_in : Told → List ℕ
+text_in (told.Text text) = text
+text_in (told.Driven history pass) = history
+text_in (told.Ran ran) = ran.text
 
--- what was written at each status: nothing at want of memory and where a file could not be read, a
--- front of the text where it could not be written, and else the whole text
-abbrev pub IsAnswered : Answer → Option (List ℕ) → Option (List ℕ) → Status → Type 0
-IsAnswered answer before after status.ReadFault = after ≡ before
-IsAnswered answer before after status.NoMemory = after ≡ before
-IsAnswered answer before after status.WriteFault = (k : ℕ) × (k ≤ length answer.text) × TookFirst before after answer.text k
-IsAnswered answer before after s = IsWhole answer before after s
+abbrev pub shown_in : Told → Shown
+shown_in (told.Text text) = show.Nothing
+shown_in (told.Driven history pass) = show.Driven pass
+shown_in (told.Ran ran) = show.Ran ran
 
--- how often a sink was asked for room at each status, and for how many bytes last: once where a text
--- or a front of it was written, for the whole of it; never where a file could not be read
-abbrev pub HasAsked : Answer → ℕ → ℕ → ℕ → Status → Type 0
-HasAsked answer before after asked status.ReadFault = after ≡ before
-HasAsked answer before after asked status.NoMemory = after ≤ before + 1
-HasAsked answer before after asked s = (after ≡ counted before 1) × (asked ≡ length answer.text)
+abbrev pub answer_in : Computed → Answer
+answer_in computed = record { status = computed.status; text = text_in computed.told; shown = shown_in computed.told }
 
--- what was written at each status, of an answer of which this holds: nothing at want of memory and where
--- a file could not be read, and else its whole text or a front of it
-abbrev pub IsTold : (Answer → Type 0) → Option (List ℕ) → Option (List ℕ) → Status → Type 0
-IsTold P before after status.ReadFault = after ≡ before
-IsTold P before after status.NoMemory = after ≡ before
-IsTold P before after s = (answer : Answer) × P answer × IsAnswered answer before after s
+abbrev pub row_in : Row → Answer
+row_in row = record { status = row.status; text = row.text; shown = show.Nothing }
 
--- what was written where neither a read nor a write failed, of an answer of which this holds: its whole
--- text, unless there was no memory
-abbrev pub IsComplete : (Answer → Type 0) → Option (List ℕ) → Option (List ℕ) → Status → Type 0
-IsComplete P before after status.NoMemory = after ≡ before
-IsComplete P before after s = (answer : Answer) × P answer × IsWhole answer before after s
+-- this holds of the row that ended a command, unless a file could not be read or there was no memory
+abbrev pub StopsWith : (Answer → Type 0) → Stopped → Type 0
+StopsWith P (stopped.Refused row) = P (row_in row)
+StopsWith P stopped.ReadFault = ⊤
+StopsWith P stopped.NoMemory = ⊤
 
--- neither a read nor a write failed
-abbrev pub IsUnfailing : Status → Type 0
-IsUnfailing status.ReadFault = ⊥
-IsUnfailing status.WriteFault = ⊥
-IsUnfailing s = ⊤
+-- this holds of the answer, unless a file could not be read or there was no memory
+abbrev pub Computes : (Answer → Type 0) → Result Computed Stopped → Type 0
+Computes P (Ok computed) = P (answer_in computed)
+Computes P (Err stop) = StopsWith P stop
+
+-- what is expected is given, or its refusal, unless a file could not be read or there was no memory
+abbrev pub Gives : {X : Type 0} → Result X Answer → Result X Stopped → Type 0
+Gives expected (Ok x) = expected ≡ Ok x
+Gives expected (Err stop) = StopsWith (IsRefused expected) stop
+
+-- whether a file could not be read
+abbrev pub is_read_fault : Stopped → Bool
+is_read_fault (stopped.Refused row) = false
+is_read_fault stopped.ReadFault = true
+is_read_fault stopped.NoMemory = false
+
+abbrev pub has_read_fault : {X : Type 0} → Result X Stopped → Bool
+has_read_fault (Ok x) = false
+has_read_fault (Err stop) = is_read_fault stop

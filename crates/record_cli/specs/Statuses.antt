@@ -15,7 +15,6 @@ status_number status.TooLarge = 6
 status_number status.ReadFault = 7
 status_number status.WriteFault = 8
 status_number status.NoMemory = 9
-status_number status.NotBuilt = 10
 
 -- whether a status comes with a text that was written whole
 abbrev pub is_written : Status → Bool
@@ -24,10 +23,19 @@ is_written status.WriteFault = false
 is_written status.NoMemory = false
 is_written other = true
 
--- how many fetches failed, after a command with this status: one more at a read fault, else none
-abbrev pub read_faults : ℕ → Status → ℕ
-read_faults before status.ReadFault = counted before 1
-read_faults before other = before
+-- whether a status is that of a refusal, which is told by one row
+abbrev pub is_refusal : Status → Bool
+is_refusal status.Usage = true
+is_refusal status.Missing = true
+is_refusal status.SpecRefused = true
+is_refusal status.InputRefused = true
+is_refusal status.TooLarge = true
+is_refusal other = false
+
+-- whether a file could not be read
+abbrev pub is_read_fault : Status → Bool
+is_read_fault status.ReadFault = true
+is_read_fault other = false
 
 -- how many puts failed, after a command with this status: one more at a write fault, else none
 abbrev pub write_faults : ℕ → Status → ℕ

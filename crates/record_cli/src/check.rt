@@ -1,118 +1,110 @@
 // The command `check`: a script's file and a history's file become a verdict.
-ghost use Rattle.std.specs.Prelude.{◌≡◌, ◌≤◌, ◌+◌, length, IfSome, IsSome, IsTrue, Some, if◌then◌else◌};
-ghost use Rattle.ho_io.specs.Whole.{bytes_within};
-ghost use Rattle.drive_kit.specs.Checks.{IsChecked};
-ghost use Rattle.drive_kit.specs.declared.check.Checked.{Checked};
-ghost use Rattle.record_cli.specs.Answers.{Computes, computed_faults};
-ghost use Rattle.record_cli.specs.Check.{CheckFailed, IsCheckAnswer, IsHistoryAnswer, IsScriptAnswer, IsThis, check_given, check_idle, is_script_text, verdict};
+ghost use Rattle.std.specs.Prelude.{◌≡◌, false, IfSome, Some};
+ghost use Rattle.drive_kit.specs.Histories.{history_in};
+ghost use Rattle.record_cli.specs.Answers.{Computes, Gives, has_read_fault};
+ghost use Rattle.record_cli.specs.Check.{IsJudged, judged_of, judged_reading, plan_in, plan_of, read_text, script_reading};
+ghost use Rattle.record_cli.specs.Commands.{Check};
+ghost use Rattle.record_cli.specs.Leaves.{Comes};
+ghost use Rattle.record_cli.specs.Reading.{Fetches, shelf_state};
 
-use crate::computed::{Computed, missing, refused_place, too_large, verdict_row};
+use crate::answer::Answer;
+use crate::load::load;
+use crate::rows::{refused_place, too_large, verdict_row};
+use crate::stopped::Stopped;
 use drive_kit::{Script, ScriptFault, check_history, parse_history, parse_script};
 use ho_base::Word;
-use ho_io::{Loaded, Shelf, fetch_whole};
+use ho_io::Shelf;
 use ho_model::History;
 use std::alloc::Global;
 
 /// The most bytes of a script's file.
-pub(crate) const MAX_SCRIPT: usize = 4_194_304;
+const MAX_SCRIPT: usize = 4_194_304;
 
 /// The most bytes of a history's file.
 const MAX_HISTORY: usize = 67_108_864;
 
-// The verdict on a history.
-fn with_history(alloc: Global, script: &Script, history: &History) -> Computed
-    ensures computed { Computes (λ answer. (told : Checked) × IsChecked script.now history.now told × IsThis (verdict told) answer) result }
-    ensures unread { result ≡ Computed.ReadFault → ⊥ }
-{
-    match check_history(alloc, script, history) {
-        Ok(checked) => verdict_row(alloc, checked),
-        Err(_) => Computed::NoMemory,
-    }
+/// A script, and a history that is judged beside it.
+#[derive(Drop)]
+pub(crate) struct Judged {
+    pub script: Script,
+    pub history: History,
 }
 
-// The answer for the bytes of a history's file.
-fn with_text(alloc: Global, script: &Script, name: &Word, bytes: &[u8]) -> Computed
-    requires { length bytes.now ≤ 67108864 }
-    ensures computed { Computes (IsHistoryAnswer name.now script.now (Some bytes.now)) result }
-    ensures unread { result ≡ Computed.ReadFault → ⊥ }
-{
-    match parse_history(alloc, script.object(), bytes) {
-        Ok(history) => with_history(alloc, script, &history),
-        Err(ScriptFault::Refused { row, cause }) => refused_place(alloc, name, row, cause),
-        Err(ScriptFault::TooManyRows) => too_large(alloc, name),
-        Err(ScriptFault::NoMemory) => Computed::NoMemory,
-    }
-}
-
-// The answer for a script and a history's file.
-fn with_script<S: Shelf>(alloc: Global, shelf: &mut S, script: &Script, history: &Word) -> Computed
-    ensures computed { IfSome (S.files shelf.old) (λ files. Computes (IsHistoryAnswer history.now script.now (files history.now)) result) }
-    ensures files { S.files shelf.new ≡ S.files shelf.old }
-    ensures bounded { S.given shelf.new ≤ S.given shelf.old + 67108865 }
-    ensures given { IfSome (S.files shelf.old) (λ files. S.given shelf.new ≤ S.given shelf.old + bytes_within 67108864 (files history.now)) }
-    ensures idle { S.idle shelf.new ≤ S.idle shelf.old + 1 }
-    ensures failing { IfSome (S.files shelf.old) (λ files. result ≡ Computed.ReadFault → (S.failing shelf.new ≡ Some history.now) × IsSome (files history.now)) }
-    ensures later { S.faults shelf.old ≤ S.faults shelf.new }
-    ensures faults { S.faults shelf.new ≡ computed_faults (S.faults shelf.old) result }
-{
-    match fetch_whole(alloc, shelf, history, MAX_HISTORY) {
-        Loaded::Whole(bytes) => with_text(alloc, script, history, &bytes),
-        Loaded::TooLarge => too_large(alloc, history),
-        Loaded::Missing => missing(alloc, history),
-        Loaded::Failed => Computed::ReadFault,
-        Loaded::NoMemory => Computed::NoMemory,
-    }
-}
-
-// The answer for the bytes of a script's file, and a history's file.
-fn with_script_text<S: Shelf>(
-    alloc: Global,
-    shelf: &mut S,
-    name: &Word,
-    text: &[u8],
-    history: &Word,
-) -> Computed
-    requires { length text.now ≤ 4194304 }
-    ensures computed { IfSome (S.files shelf.old) (λ files. Computes (IsScriptAnswer name.now history.now (Some text.now) (files history.now)) result) }
-    ensures files { S.files shelf.new ≡ S.files shelf.old }
-    ensures bounded { S.given shelf.new ≤ S.given shelf.old + 67108865 }
-    ensures given { IfSome (S.files shelf.old) (λ files. S.given shelf.new ≤ S.given shelf.old + (if is_script_text text.now then bytes_within 67108864 (files history.now) else 0)) }
-    ensures idle { S.idle shelf.new ≤ S.idle shelf.old + (if is_script_text text.now then 1 else 0) }
-    ensures failing { IfSome (S.files shelf.old) (λ files. result ≡ Computed.ReadFault → (S.failing shelf.new ≡ Some history.now) × IsSome (files history.now) × IsTrue (is_script_text text.now)) }
-    ensures later { S.faults shelf.old ≤ S.faults shelf.new }
-    ensures faults { S.faults shelf.new ≡ computed_faults (S.faults shelf.old) result }
+// The script that a text means.
+fn script_in(alloc: Global, name: &Word, text: &[u8]) -> Result<Script, Stopped>
+    ensures given { Gives (plan_in name.now text.now) result }
+    ensures unread { has_read_fault result ≡ false }
 {
     match parse_script(alloc, text) {
-        Ok(script) => with_script(alloc, shelf, &script, history),
-        Err(ScriptFault::Refused { row, cause }) => refused_place(alloc, name, row, cause),
-        Err(ScriptFault::TooManyRows) => too_large(alloc, name),
-        Err(ScriptFault::NoMemory) => Computed::NoMemory,
+        Ok(script) => Ok(script),
+        Err(ScriptFault::Refused { row, cause }) => Err(refused_place(alloc, name, row, cause)),
+        Err(ScriptFault::TooManyRows) => Err(too_large(alloc, name)),
+        Err(ScriptFault::NoMemory) => Err(Stopped::NoMemory),
     }
 }
 
-/// What `check SCRIPT HISTORY` answers. The history's file is fetched only once the script is read and
-/// not refused.
+// The history that a text means beside a script.
+fn history_in(alloc: Global, script: &Script, name: &Word, text: &[u8]) -> Result<History, Stopped>
+    ensures given { Gives (read_text name.now (history_in script.now.object text.now)) result }
+    ensures unread { has_read_fault result ≡ false }
+{
+    match parse_history(alloc, script.object(), text) {
+        Ok(history) => Ok(history),
+        Err(ScriptFault::Refused { row, cause }) => Err(refused_place(alloc, name, row, cause)),
+        Err(ScriptFault::TooManyRows) => Err(too_large(alloc, name)),
+        Err(ScriptFault::NoMemory) => Err(Stopped::NoMemory),
+    }
+}
+
+/// The script of a file.
+pub(crate) fn load_script<S: Shelf>(
+    alloc: Global,
+    shelf: &mut S,
+    script: &Word,
+) -> Result<Script, Stopped>
+    ensures fetches { let state = shelf_state S.files S.given S.idle S.faults S.failing in Fetches (script_reading script.now) (state shelf.old) (state shelf.new) (has_read_fault result) }
+    ensures given { IfSome (S.files shelf.old) (λ files. Gives (plan_of files script.now) result) }
+{
+    let text = load(alloc, shelf, script, MAX_SCRIPT)?;
+    script_in(alloc, script, text.bytes())
+}
+
+// The script and the history of two files. The history's is fetched only once the script is read and
+// not refused.
+fn load_judged<S: Shelf>(
+    alloc: Global,
+    shelf: &mut S,
+    script: &Word,
+    history: &Word,
+) -> Result<Judged, Stopped>
+    ensures fetches { let state = shelf_state S.files S.given S.idle S.faults S.failing in Fetches (judged_reading script.now history.now) (state shelf.old) (state shelf.new) (has_read_fault result) }
+    ensures given { IfSome (S.files shelf.old) (λ files. Gives (judged_of files script.now history.now) result) }
+{
+    let text = load(alloc, shelf, script, MAX_SCRIPT)?;
+    let script = script_in(alloc, script, text.bytes())?;
+    let bytes = load(alloc, shelf, history, MAX_HISTORY)?;
+    let history = history_in(alloc, &script, history, bytes.bytes())?;
+    Ok(Judged { script, history })
+}
+
+// What a history is beside its script.
+fn judge(alloc: Global, judged: &Judged) -> Result<Answer, Stopped>
+    ensures verdict { Computes (IsJudged judged.now) result }
+    ensures unread { has_read_fault result ≡ false }
+{
+    let told = check_history(alloc, &judged.script, &judged.history)?;
+    verdict_row(alloc, told)
+}
+
+/// What `check SCRIPT HISTORY` answers.
 pub(crate) fn check<S: Shelf>(
     alloc: Global,
     shelf: &mut S,
     script: &Word,
     history: &Word,
-) -> Computed
-    ensures computed { IfSome (S.files shelf.old) (λ files. Computes (IsCheckAnswer files script.now history.now) result) }
-    ensures files { S.files shelf.new ≡ S.files shelf.old }
-    ensures bounded { S.given shelf.new ≤ S.given shelf.old + 4194305 + 67108865 }
-    ensures given { IfSome (S.files shelf.old) (λ files. S.given shelf.new ≤ S.given shelf.old + check_given files script.now history.now) }
-    ensures idle_bounded { S.idle shelf.new ≤ S.idle shelf.old + 2 }
-    ensures idle { IfSome (S.files shelf.old) (λ files. S.idle shelf.new ≤ S.idle shelf.old + check_idle files script.now) }
-    ensures in_turn { IfSome (S.files shelf.old) (λ files. result ≡ Computed.ReadFault → CheckFailed files script.now history.now (S.failing shelf.new)) }
-    ensures later { S.faults shelf.old ≤ S.faults shelf.new }
-    ensures faults { S.faults shelf.new ≡ computed_faults (S.faults shelf.old) result }
+) -> Result<Answer, Stopped>
+    ensures { let state = shelf_state S.files S.given S.idle S.faults S.failing in Comes (Some (Check script.now history.now)) (state shelf.old) (state shelf.new) result }
 {
-    match fetch_whole(alloc, shelf, script, MAX_SCRIPT) {
-        Loaded::Whole(text) => with_script_text(alloc, shelf, script, &text, history),
-        Loaded::TooLarge => too_large(alloc, script),
-        Loaded::Missing => missing(alloc, script),
-        Loaded::Failed => Computed::ReadFault,
-        Loaded::NoMemory => Computed::NoMemory,
-    }
+    let judged = load_judged(alloc, shelf, script, history)?;
+    judge(alloc, &judged)
 }

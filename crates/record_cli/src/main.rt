@@ -3,16 +3,16 @@
 //!
 //! [`top::run_plain`] runs the commands that do not wait for other threads, and always returns;
 //! [`run::run`] runs all, and hands those on. Both promise the exact bytes and status for the words and
-//! files, where shelf and sink tell them. Over any shelf and sink they promise how much is read and
-//! written at most, that at most one fetch a file gives no byte, that room is asked for once, for the
-//! whole text, that each fault is told by its status and no other status comes with one, and that
-//! nothing is written after a read fault or want of memory. Where the shelf tells its files, a read
-//! fault is of the first file, or of the second after a first that is not refused. Where a script was
-//! played and its history written whole, `run` shows the whole pass of the object that has seen exactly
-//! this history, and else nothing. `docs/FORMATS.md` tells commands, statuses and texts.
+//! files, where shelf and sink tell them, in one record (`specs/Leaves.antt`): also how much is read and
+//! put at most, that room is asked for once, for the whole text, that each fault is told by its status and
+//! no other status comes with one, and that nothing is written after a read fault or want of memory. Where
+//! a script was played, or a pipeline run on many threads, and the text written whole, `run` shows the whole
+//! passes of the objects that it stood on, and else nothing. Where no joint may drop, `run PIPE FILE
+//! WORKERS` writes what `plain PIPE FILE` writes. `docs/FORMATS.md` tells commands, statuses and texts.
 //! The crate stands on `record_lang` for what a pipeline and records mean, on `drive_kit` for scripts,
-//! their callers and the verdict on a history, on `text_rows` for rows as they are written, on `ho_io`
-//! for files, output and gates, and on `ho_base` for words.
+//! their callers and the verdict on a history, on `stage_pipeline` for runs on many threads, on
+//! `text_rows` for rows as they are written, on `ho_io` for files, output and gates, and on `ho_base` for
+//! words.
 //!
 //! No contract can say which words the system gives: `take_words` promises nothing, and the stored run
 //! shows that it takes them.
@@ -21,13 +21,19 @@
 mod answer;
 mod check;
 mod commands;
-mod computed;
 mod drive;
 mod finished;
+mod inputs;
+mod load;
+mod piped;
 mod plain;
+mod rows;
 mod run;
 mod status;
+mod stopped;
+mod told;
 mod top;
+mod writing;
 
 use crate::status::Status;
 use ho_base::Word;

@@ -7,13 +7,13 @@ ghost use Rattle.record_cli.specs.Statuses.{status_number};
 pub enum Status {
     /// The text was written whole.
     Done,
-    /// The text was written whole, and a guard ended the run.
+    /// The text was written whole: a guard ended the run, or a history is not legal and whole.
     Ended,
     /// The words have no form of a command.
     Usage,
     /// There is no file of that name.
     Missing,
-    /// A pipeline's text has a refused line.
+    /// A pipeline's text has a refused line, or a script's or a history's a refused row.
     SpecRefused,
     /// A record file has a refused row.
     InputRefused,
@@ -24,12 +24,10 @@ pub enum Status {
     /// The text could not be written whole. What was written is the front of it.
     WriteFault,
     NoMemory,
-    /// The command is not built yet.
-    NotBuilt,
 }
 
 impl Status {
-    /// The program's exit status, from 0 to 10 in the order of the variants.
+    /// The program's exit status, from 0 to 9 in the order of the variants.
     pub fn number(&self) -> u8
         ensures { result ≡ status_number self.now }
     {
@@ -44,7 +42,6 @@ impl Status {
             Status::ReadFault => 7,
             Status::WriteFault => 8,
             Status::NoMemory => 9,
-            Status::NotBuilt => 10,
         }
     }
 }

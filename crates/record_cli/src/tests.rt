@@ -1,6 +1,8 @@
 // Whole runs: words and files in, status and bytes out. The expected bytes are worked by hand from
 // the formats.
+mod driven;
 mod judged;
+mod piped;
 
 use crate::commands::waits;
 use crate::run::run;
@@ -55,9 +57,18 @@ fn run_at_once<S: Shelf, K: Sink>(
 ) -> Status {
     // for the proof: `run_plain` asks that the command does not wait
     if waits(words) {
-        return Status::NotBuilt;
+        return Status::Usage;
     }
     run_plain(alloc, words, shelf, out)
+}
+
+// The text, and this row so many times behind it.
+fn repeated(alloc: Global, text: &[u8], row: &[u8], times: usize) -> Result<Vec<u8>, Fail> {
+    let mut all = text.to_vec(alloc)?;
+    for _ in 0..times {
+        all.extend_from_slice(row)?;
+    }
+    Ok(all)
 }
 
 // Runs `plain p f` over these files, and writes in pieces of a few bytes.
@@ -194,12 +205,7 @@ fn words_have_a_form_or_are_refused(rt: HostRuntime) -> Result<(), Fail> {
             b"usage\n",
             false,
         ),
-        (
-            &[b"run", b"p", b"f", b"16"],
-            Status::NotBuilt,
-            b"notbuilt\n",
-            true,
-        ),
+        (&[b"run", b"p", b"f", b"16"], Status::Done, TEXT, true),
         (
             &[b"run", b"p", b"f", b"000000000000000000001"],
             Status::Usage,
@@ -216,14 +222,14 @@ fn words_have_a_form_or_are_refused(rt: HostRuntime) -> Result<(), Fail> {
         ),
         (
             &[b"made", b"3", b"1", b"2"],
-            Status::NotBuilt,
-            b"notbuilt\n",
+            Status::Done,
+            b"counts,3,2,0,1\nsum,4818\nending,done\n",
             true,
         ),
         (
-            &[b"made", b"200000", b"2147483647", b"1"],
-            Status::NotBuilt,
-            b"notbuilt\n",
+            &[b"made", b"0", b"2147483647", b"16"],
+            Status::Done,
+            b"counts,0,0,0,0\nsum,0\nending,done\n",
             true,
         ),
         (
@@ -371,7 +377,6 @@ fn statuses_have_their_numbers(rt: HostRuntime) {
         Status::ReadFault,
         Status::WriteFault,
         Status::NoMemory,
-        Status::NotBuilt,
     ];
     for (number, status) in statuses.iter().enumerate() {
         assert_eq!(rt; usize::from(status.number()), number);

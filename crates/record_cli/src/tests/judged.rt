@@ -1,11 +1,8 @@
-// Whole runs of `check` and of `drive`. The expected rows are worked by hand from the model and the
-// formats.
-use super::{run_at_once, words_of};
-use crate::finished::Shown;
-use crate::run::run;
+// Whole runs of `check`. The expected rows are worked by hand from the model and the formats.
+use super::{repeated, run_at_once, words_of};
 use crate::status::Status;
 use ho_base::Word;
-use ho_io::{FreeShelf, FreeSink, MemShelf, MemSink, OpenGate};
+use ho_io::{FreeShelf, FreeSink, MemShelf, MemSink};
 use std::alloc::Global;
 use std::test::Fail;
 
@@ -14,7 +11,11 @@ const SCRIPT: &[u8] = b"queue,2,2\n0,enq,7\n1,deq\n";
 const HISTORY: &[u8] = b"0,0,enq,7,done\n1,1,deq,,item,7\n";
 
 // Runs `check s h` over these files.
-fn check(alloc: Global, script: &[u8], history: &[u8]) -> Result<(Status, Vec<u8>), Fail> {
+pub(super) fn check(
+    alloc: Global,
+    script: &[u8],
+    history: &[u8],
+) -> Result<(Status, Vec<u8>), Fail> {
     let words = words_of(alloc, &[b"check", b"s", b"h"])?;
     let mut shelf = FreeShelf::new(alloc);
     shelf.add(Word::new(alloc, b"s")?, script)?;
@@ -22,15 +23,6 @@ fn check(alloc: Global, script: &[u8], history: &[u8]) -> Result<(Status, Vec<u8
     let mut out = FreeSink::new(alloc, 7);
     let status = run_at_once(alloc, &words, &mut shelf, &mut out);
     Ok((status, out.taken().to_vec(alloc)?))
-}
-
-// The text, and this row so many times behind it.
-fn repeated(alloc: Global, text: &[u8], row: &[u8], times: usize) -> Result<Vec<u8>, Fail> {
-    let mut all = text.to_vec(alloc)?;
-    for _ in 0..times {
-        all.extend_from_slice(row)?;
-    }
-    Ok(all)
 }
 
 #[test]
@@ -100,19 +92,80 @@ fn histories_are_judged_beside_their_scripts(rt: HostRuntime) -> Result<(), Fail
 }
 
 #[test]
+fn fields_have_20_digits_at_most_and_may_stand_in_quotes(rt: HostRuntime) -> Result<(), Fail> {
+    let script = b"queue,2,2\n0,enq,7\n0,deq\n";
+    let table: [(&[u8], Status, &[u8]); 9] = [
+        (
+            b"00000000000000000000,0,enq,00000000000000000007,done\n1,0,deq,,item,00000000000000000007\n",
+            Status::Done,
+            b"legal,2\n",
+        ),
+        (
+            b"000000000000000000000,0,enq,7,done\n",
+            Status::SpecRefused,
+            b"spec,h,0,7\n",
+        ),
+        (
+            b"0,000000000000000000000,enq,7,done\n",
+            Status::SpecRefused,
+            b"spec,h,0,3\n",
+        ),
+        (
+            b"0,0,enq,000000000000000000007,done\n",
+            Status::SpecRefused,
+            b"spec,h,0,5\n",
+        ),
+        (
+            b"0,0,enq,7,done\n1,0,deq,,item,000000000000000000007\n",
+            Status::SpecRefused,
+            b"spec,h,1,8\n",
+        ),
+        (
+            b"0,0,enq,7,done\r1,0,deq,,\"item\",\"7\"\r",
+            Status::Done,
+            b"legal,2\n",
+        ),
+        (
+            b"0,0,enq,7,\"done\r\"\n",
+            Status::SpecRefused,
+            b"spec,h,0,8\n",
+        ),
+        (
+            b"0,0,enq,7,\"do\"\"ne\"\n",
+            Status::SpecRefused,
+            b"spec,h,0,8\n",
+        ),
+        (b"\r\n\n\r", Status::Ended, b"lacking,0,0\n"),
+    ];
+    for (history, status, text) in table {
+        let (answer, taken) = check(rt.alloc(), script, history)?;
+        assert_eq!(rt; answer, status, "{history:?}");
+        assert_eq!(rt; taken.as_slice(), text, "{history:?}");
+    }
+    Ok(())
+}
+
+#[test]
 fn scripts_and_histories_past_a_limit_are_named(rt: HostRuntime) -> Result<(), Fail> {
     let alloc = rt.alloc();
-    let rows = repeated(alloc, b"queue,2,2\n", b"0,deq\n", 20_001)?;
+    let rows = repeated(alloc, b"queue,2,2\n", b"0,deq\n", 20_000)?;
+    let (status, _) = check(alloc, &rows, b"")?;
+    assert_eq!(rt; status, Status::Ended, "a script of 20,000 rows");
+    let rows = repeated(alloc, &rows, b"0,deq\n", 1)?;
     let (status, text) = check(alloc, &rows, b"")?;
     assert_eq!(rt; status, Status::TooLarge);
     assert_eq!(rt; text.as_slice(), b"large,s\n".as_slice());
 
-    let snaps = repeated(alloc, b"queue,2,2\n", b"0,snap\n", 101)?;
+    let snaps = repeated(alloc, b"queue,2,2\n", b"0,snap\n", 100)?;
+    let (status, _) = check(alloc, &snaps, b"")?;
+    assert_eq!(rt; status, Status::Ended, "a script of 100 snapshots");
+    let snaps = repeated(alloc, &snaps, b"0,snap\n", 1)?;
     let (status, text) = check(alloc, &snaps, b"")?;
     assert_eq!(rt; status, Status::SpecRefused);
     assert_eq!(rt; text.as_slice(), b"spec,s,101,6\n".as_slice());
 
-    let mut script = repeated(alloc, b"bag\n", b"\n", 4_194_300)?;
+    let mut script = b"bag\n".to_vec(alloc)?;
+    script.resize(4_194_304, b'\n')?;
     let (status, _) = check(alloc, &script, b"")?;
     assert_eq!(rt; status, Status::Done, "a script of 4,194,304 bytes");
     script.push(b'\n')?;
@@ -186,95 +239,6 @@ fn the_script_is_judged_before_the_history_is_fetched(rt: HostRuntime) -> Result
         let mut out = FreeSink::new(alloc, 64);
         assert_eq!(rt; run_at_once(alloc, &words, &mut shelf, &mut out), status);
         assert_eq!(rt; out.taken(), text);
-    }
-    Ok(())
-}
-
-#[test]
-fn refused_scripts_are_not_played(rt: HostRuntime) -> Result<(), Fail> {
-    let alloc = rt.alloc();
-    let words = words_of(alloc, &[b"drive", b"s"])?;
-    let table: [(&[u8], Status, &[u8]); 5] = [
-        (b"queue,2,3\n", Status::SpecRefused, b"spec,s,0,2\n"),
-        (b"", Status::SpecRefused, b"spec,s,0,1\n"),
-        (b"queue,2,2\n16,deq\n", Status::SpecRefused, b"spec,s,1,3\n"),
-        (b"queue,2,2\n0,fly\n", Status::SpecRefused, b"spec,s,1,4\n"),
-        (b"queue,2,2\n0,enq\n", Status::SpecRefused, b"spec,s,1,5\n"),
-    ];
-    for (script, status, text) in table {
-        let mut shelf = FreeShelf::new(alloc);
-        shelf.add(Word::new(alloc, b"s")?, script)?;
-        let mut out = FreeSink::new(alloc, 64);
-        let finished = run(&rt, alloc, &words, &mut shelf, &mut out, &OpenGate);
-        assert_eq!(rt; finished.status, status);
-        assert!(rt; is_nothing(&finished.shown));
-        assert_eq!(rt; out.taken(), text);
-    }
-    Ok(())
-}
-
-fn is_nothing(shown: &Shown) -> bool {
-    match shown {
-        Shown::Nothing => true,
-        Shown::Driven(_) => false,
-    }
-}
-
-#[test]
-fn scripts_are_played_and_their_objects_shown(rt: HostRuntime) -> Result<(), Fail> {
-    let alloc = rt.alloc();
-    let words = words_of(alloc, &[b"drive", b"s"])?;
-    let table: [(&[u8], &[u8]); 4] = [
-        (
-            b"queue,2,2\n0,enq,7\n0,enq,8\n0,enq,9\n0,deq\n",
-            b"0,0,enq,7,done\n1,0,enq,8,done\n2,0,enq,9,full\n3,0,deq,,item,7\n",
-        ),
-        (
-            b"bag\n0,add,5\n0,add,6\n0,snap\n0,take\n",
-            b"0,0,add,5,done\n1,0,add,6,done\n2,0,snap,,items,5,6\n3,0,take,,item,6,0\n",
-        ),
-        (
-            b"unbounded\n0,begin-read\n0,write,5\n0,cancel,0\n0,cancel,0\n",
-            b"0,0,begin-read,,waiting,0\n1,0,write,5,done\n2,0,cancel,0,item,5\n3,0,cancel,0,unknown\n",
-        ),
-        (b"bag\n", b""),
-    ];
-    for (script, history) in table {
-        let mut shelf = FreeShelf::new(alloc);
-        shelf.add(Word::new(alloc, b"s")?, script)?;
-        let mut out = FreeSink::new(alloc, 64);
-        let finished = run(&rt, alloc, &words, &mut shelf, &mut out, &OpenGate);
-        assert_eq!(rt; finished.status, Status::Done, "{script:?}");
-        assert!(rt; !is_nothing(&finished.shown), "{script:?}");
-        assert_eq!(rt; out.taken(), history, "{script:?}");
-    }
-    Ok(())
-}
-
-#[test]
-fn nothing_is_shown_where_a_history_was_not_written_whole(rt: HostRuntime) -> Result<(), Fail> {
-    let alloc = rt.alloc();
-    let words = words_of(alloc, &[b"drive", b"s"])?;
-    let history = b"0,0,enq,7,done\n".as_slice();
-    // The row has 15 bytes, so three puts of 6 bytes at most.
-    for call in 0..4usize {
-        let mut shelf = FreeShelf::new(alloc);
-        shelf.add(Word::new(alloc, b"s")?, b"queue,2,2\n0,enq,7\n")?;
-        let mut out = MemSink::new(alloc, 6);
-        out.fail_at(call as u64)?;
-        let finished = run(&rt, alloc, &words, &mut shelf, &mut out, &OpenGate);
-        let want = if call < 3 {
-            Status::WriteFault
-        } else {
-            Status::Done
-        };
-        assert_eq!(rt; finished.status, want, "at put {call}");
-        assert_eq!(rt; is_nothing(&finished.shown), call < 3, "at put {call}");
-        assert_eq!(rt;
-            out.taken(),
-            &history[..(6 * call).min(15)],
-            "at put {call}"
-        );
     }
     Ok(())
 }

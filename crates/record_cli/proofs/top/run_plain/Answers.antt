@@ -1,10 +1,11 @@
--- Where nothing was written, any answer serves.
-use Rattle.std.proofs.Common.{refl, arith}
-use Rattle.record_cli.specs.Plain.{usage}
+-- What a command leaves that does not wait.
+use Rattle.record_cli.specs.Commands.{command_of}
+use Rattle.record_cli.proofs.Leavings.{leaves, plain_leaves}
 use Rattle.record_cli.proofs.top.run_plain.Goals as goal
 
-pub returns-in-ReadFault-clause-written : goal.returns-in-ReadFault-clause-written
-returns-in-ReadFault-clause-written g c = (usage, refl, omega arith, refl)
-
-pub returns-in-NoMemory-clause-written : goal.returns-in-NoMemory-clause-written
-returns-in-NoMemory-clause-written g c = (usage, refl, omega arith, omega arith)
+pub returns-clause-leaves : goal.returns-clause-leaves
+returns-clause-leaves g c =
+    let task = command_of c.args.words.now in
+    let status = c.finish.result.status in
+    let shown = c.finish.result.shown in
+    plain_leaves task _ _ _ _ status shown c.requires (leaves task _ _ c.compute-computed.result _ _ status shown c.compute-computed.ensures.computed c.finish.ensures.ends)
