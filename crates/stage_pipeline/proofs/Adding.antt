@@ -11,10 +11,10 @@ use Rattle.ho_model.specs.declared.marks.CallMark.TheVariants.{BeginRead, BeginW
 use Rattle.ho_model.specs.declared.marks.ReplyMark.{ReplyMark}
 use Rattle.ho_model.specs.declared.marks.ReplyMark.TheVariants.{Done, Dropped, Refused, Item, ClosedWith, Waiting}
 use Rattle.ho_model.specs.Entries.{entry}
-use Rattle.passes.specs.Numbers.{HasNumber}
 use Rattle.passes.specs.Seen.{SeesOwn, own_of}
 use Rattle.passes.specs.Calls.{IsSamePass}
 use Rattle.passes.proofs.Owned.{own_of-own, entry_own}
+use Rattle.passes.proofs.Calls.{own_before}
 use Rattle.turn_lock.specs.Passes.{LockPass}
 use Rattle.channel_core.specs.Marks.{reply_mark}
 use Rattle.channel_wait.specs.Ends.{read_reply, write_reply}
@@ -32,9 +32,6 @@ none_weigh f e z zero = refl
 none_weigh f e z (suc k) = let s = sum_by-cons f e (replicate k e) in let t = none_weigh f e z k in omega arith
 
 -- own entries of a call that waits: its begin ended at once, or left a wait, and polls said so up to the last
-own_caller : (p q : LockPass) → IsSamePass p q → HasNumber p.held p.caller
-own_caller p q same = subst (λ (c : ℕ). HasNumber p.held c) same.caller (subst (λ (h : List Bool). HasNumber h q.caller) same.held same.own)
-
 module _ (p q : LockPass) (same : IsSamePass p q) where
   own_weighs : (f : EntryMark → ℕ) (own : List EntryMark) → SeesOwn p.held p.seen own q.seen → weighs f q ≡ weighs f p + sum_by f own
   own_weighs f own sees =
@@ -47,7 +44,7 @@ module _ (p q : LockPass) (same : IsSamePass p q) where
         → PollsOut priority begin p q r → weighs f q ≡ weighs f p + x
     waits_weigh f x y z once begun polled ended all (inl a) =
         let e = entry p.caller begin r in
-        let w = own_weighs f (e ∷ []) (entry_own p.held p.seen q.seen a.one.0 e (own_caller p q same) a.one.1.seen) in
+        let w = own_weighs f (e ∷ []) (entry_own p.held p.seen q.seen a.one.0 e (own_before p q same) a.one.1.seen) in
         let s = sum_by-cons f e [] in
         omega (arith, w, s, once)
     waits_weigh f x y z once begun polled ended all (inr a) =
@@ -64,7 +61,7 @@ module _ (p q : LockPass) (same : IsSamePass p q) where
         → ((n : ℕ) → f (entry p.caller (Poll n) (Waiting n)) ≡ 0) → ((n : ℕ) → g (entry p.caller (Poll n) (Waiting n)) ≡ 0) → PollsOut priority begin p q r → weighs f q + weighs g p ≡ weighs f p + weighs g q
     waits_settle f g once both polled polled' (inl a) =
         let e = entry p.caller begin r in
-        let own = entry_own p.held p.seen q.seen a.one.0 e (own_caller p q same) a.one.1.seen in
+        let own = entry_own p.held p.seen q.seen a.one.0 e (own_before p q same) a.one.1.seen in
         let w = own_weighs f (e ∷ []) own in
         let v = own_weighs g (e ∷ []) own in
         let s = sum_by-cons f e [] in

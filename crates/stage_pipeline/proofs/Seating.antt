@@ -22,7 +22,7 @@ use Rattle.record_lang.specs.declared.outcomes.Outcome.{Outcome}
 use Rattle.record_lang.specs.declared.pipelines.Stage.{Stage}
 use Rattle.joint_reports.specs.Through.{says, goes, ends}
 use Rattle.stage_pipeline.specs.Crews.{ComesBack, ComesBackTo, IsNewAt, IsNewAtTo}
-use Rattle.stage_pipeline.specs.Seats.{AreOfTo, IsSeat, JoinsTo, SeatEnds, SplitsSeat, SplitsTo, TakesIn, TellsFault}
+use Rattle.stage_pipeline.specs.Seats.{AreOfTo, IsSeat, JoinsTo, SeatEnds, SplitsSeat, SplitsTo, TakesIn, IsToldFault}
 use Rattle.stage_pipeline.specs.Works.{IsNewTo, WorksOff, counts, counts_to, is_last, lost_by, weighs, weighs_to}
 use Rattle.stage_pipeline.specs.declared.seats.Seat.{Seat}
 use Rattle.stage_pipeline.specs.declared.seats.SeatEnd.{SeatEnd}
@@ -263,7 +263,7 @@ module _ (m : Meaning) (stages : ℕ) (joints : List TableId) (n number left : �
       closed = λ whole. (let w = takes.whole whole in let x = a.closed w.0 in let y = b.closed w.1 in let z = counts_both rest.read end.read all.read takes.read is_closed in omega (arith, one_more, x, y, z));
     }
 
-    pub all_tell : TellsFault end → TellsFault all
+    pub all_tell : IsToldFault end → IsToldFault all
     all_tell tells whole =
         let told = tells (takes.whole whole).1 in
         let sum = counts_both rest.read end.read all.read takes.read (is_closed_with (fault_number end.fault)) in

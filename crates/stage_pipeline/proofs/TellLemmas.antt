@@ -26,7 +26,7 @@ use Rattle.record_lang.specs.declared.pipelines.Stage.{Stage}
 use Rattle.record_lang.specs.declared.reports.Dropped.{Dropped}
 use Rattle.turn_lock.specs.Passes.{LockPass}
 use Rattle.stage_pipeline.specs.Orders.{is_told_before}
-use Rattle.stage_pipeline.specs.Runs.{AreJointPasses, IsRan, MayDrop, RanView, dropped_numbers, drops_of}
+use Rattle.stage_pipeline.specs.Runs.{AreJointPasses, IsRan, DropsLawfully, RanView, dropped_numbers, drops_of}
 use Rattle.stage_pipeline.specs.Tellings.{HasRun}
 use Rattle.stage_pipeline.specs.declared.runs.Done.{Done}
 use Rattle.stage_pipeline.proofs.OrderLemmas.{IsInOrder, Rises, pairs_append, pairs_map, pairs_nil, sorted_is_one}
@@ -133,7 +133,7 @@ dropped_are drops guard rows given told numbered same moved up =
 
 -- 4. Where no joint may drop, nothing was dropped
 
-no_drop : (line : Joint) (arrived : List Row) (numbers : List ℕ) → may_drop line ≡ false → MayDrop line arrived numbers → numbers ≡ []
+no_drop : (line : Joint) (arrived : List Row) (numbers : List ℕ) → may_drop line ≡ false → DropsLawfully line arrived numbers → numbers ≡ []
 no_drop (joint.Wait capacity) arrived numbers never h = h
 no_drop (joint.DropNewest capacity) arrived numbers never h = absurd (both_ways true never refl)
 no_drop (joint.DropOldest capacity) arrived numbers never h = absurd (both_ways true never refl)
@@ -145,7 +145,7 @@ none_dropped pipeline rows workers passes h never = λ k d within.
     let line_within : k < length pipeline.joints = (let e = h.count in omega (arith, e, within)) in
     let line : Joint = get_or pipeline.joints k joint.Unbounded in
     let waits : may_drop line ≡ false = false_from_ne_true (may_drop line) (λ e. both_ways (has_drop_joint pipeline.joints) never (list_any_at may_drop pipeline.joints k joint.Unbounded line_within e)) in
-    no_drop line _ (dropped_numbers (get_or passes k d)) waits ((h.each k line (get_or passes k d) (slice_get-get_or pipeline.joints k joint.Unbounded line_within) (slice_get-get_or passes k d within)).may_drop)
+    no_drop line _ (dropped_numbers (get_or passes k d)) waits ((h.each k line (get_or passes k d) (slice_get-get_or pipeline.joints k joint.Unbounded line_within) (slice_get-get_or passes k d within)).drops)
 
 all_kept : (passes : List LockPass) (row : Row) → All (λ p. dropped_numbers p ≡ []) passes → is_kept (drops_of passes) row ≡ true
 all_kept passes row none =

@@ -28,7 +28,7 @@ use Rattle.joint_reports.proofs.Permutations.{same_marks, same_outcomes}
 use Rattle.joint_reports.proofs.Weights.{mapped_weight}
 use Rattle.joint_reports.proofs.Reaching.{records_reach, dropped_fed}
 use Rattle.joint_reports.proofs.Outcomes.{outcomes_kept}
-use Rattle.stage_pipeline.specs.Runs.{AreJointPasses, IsJointPass, MayDrop, callers_at, dropped_numbers, drops_of}
+use Rattle.stage_pipeline.specs.Runs.{AreJointPasses, IsJointPass, DropsLawfully, callers_at, dropped_numbers, drops_of}
 use Rattle.stage_pipeline.specs.Meetings.{JointEnd, lost_from}
 use Rattle.stage_pipeline.specs.Tellings.{MeetingsTellRuns}
 use Rattle.stage_pipeline.specs.declared.runs.Done.{Done}
@@ -53,12 +53,12 @@ few_left capacity arrived p few t =
     let b = length_permutation p.taken (map mark_of (left_of (lost_numbers p) arrived)) t.taken in
     few_as (length p.written) (length p.taken) (length arrived) (length (left_of (lost_numbers p) arrived)) capacity (sym a ∙ length-map arrived mark_of) (sym b ∙ length-map (left_of (lost_numbers p) arrived) mark_of) few
 
-may_drop : (line : Joint) (arrived : List Row) (p : Passage) → HasRoom line p.written p.taken p.lost → TellsJoint arrived p → MayDrop line arrived (lost_numbers p)
-may_drop (joint.Wait capacity) arrived p room t = ap (map number_of) room
-may_drop (joint.DropNewest capacity) arrived p room t = few_left capacity arrived p room t
-may_drop (joint.DropOldest capacity) arrived p room t = few_left capacity arrived p room t
-may_drop (joint.DropWrite capacity) arrived p room t = few_left capacity arrived p room t
-may_drop joint.Unbounded arrived p room t = ap (map number_of) room
+drops_lawfully : (line : Joint) (arrived : List Row) (p : Passage) → HasRoom line p.written p.taken p.lost → TellsJoint arrived p → DropsLawfully line arrived (lost_numbers p)
+drops_lawfully (joint.Wait capacity) arrived p room t = ap (map number_of) room
+drops_lawfully (joint.DropNewest capacity) arrived p room t = few_left capacity arrived p room t
+drops_lawfully (joint.DropOldest capacity) arrived p room t = few_left capacity arrived p room t
+drops_lawfully (joint.DropWrite capacity) arrived p room t = few_left capacity arrived p room t
+drops_lawfully joint.Unbounded arrived p room t = ap (map number_of) room
 
 joint_pass : (workers index : ℕ) (line : Joint) (arrived : List Row) (fault : ℕ) (e : JointEnd) → JointMet workers index line fault e → TellsJoint arrived (passage e) → IsJointPass line (callers_at workers index) workers arrived fault e.whole
 joint_pass workers index line arrived fault e m t = record {
@@ -69,7 +69,7 @@ joint_pass workers index line arrived fault e m t = record {
   written = t.written;
   lost = t.lost;
   taken = t.taken;
-  may_drop = may_drop line arrived (passage e) m.shows.room t;
+  drops = drops_lawfully line arrived (passage e) m.shows.room t;
   completed = m.shows.completed;
   readers = m.shows.closed ∙ m.meets.closed;
 }

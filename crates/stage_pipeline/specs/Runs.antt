@@ -41,12 +41,12 @@ abbrev pub drops_of : List LockPass → List (List ℕ)
 drops_of passes = map dropped_numbers passes
 
 -- nothing was dropped; where a joint may drop, as many of the records that reached it are left as it has room for, or all
-abbrev pub MayDrop : Joint → List Row → List ℕ → Type 0
-MayDrop (joint.Wait capacity) arrived dropped = dropped ≡ []
-MayDrop (joint.DropNewest capacity) arrived dropped = min (length arrived) capacity ≤ length (left_of dropped arrived)
-MayDrop (joint.DropOldest capacity) arrived dropped = min (length arrived) capacity ≤ length (left_of dropped arrived)
-MayDrop (joint.DropWrite capacity) arrived dropped = min (length arrived) capacity ≤ length (left_of dropped arrived)
-MayDrop joint.Unbounded arrived dropped = dropped ≡ []
+abbrev pub DropsLawfully : Joint → List Row → List ℕ → Type 0
+DropsLawfully (joint.Wait capacity) arrived dropped = dropped ≡ []
+DropsLawfully (joint.DropNewest capacity) arrived dropped = min (length arrived) capacity ≤ length (left_of dropped arrived)
+DropsLawfully (joint.DropOldest capacity) arrived dropped = min (length arrived) capacity ≤ length (left_of dropped arrived)
+DropsLawfully (joint.DropWrite capacity) arrived dropped = min (length arrived) capacity ≤ length (left_of dropped arrived)
+DropsLawfully joint.Unbounded arrived dropped = dropped ≡ []
 
 -- The whole pass of a joint that these records reached: what was written to it is these records, what it dropped is those of
 -- the dropped numbers, and what was taken is the others, each once. It was completed once, with this fault. Its end was
@@ -59,7 +59,7 @@ pub record IsJointPass (line : Joint) (callers workers : ℕ) (arrived : List Ro
   pub written : IsPermutation (flat_map written_in p.seen) (map mark_of arrived)
   pub lost : IsPermutation (flat_map dropped_in p.seen) (map mark_of (dropped_of (dropped_numbers p) arrived))
   pub taken : IsPermutation (flat_map taken_in p.seen) (map mark_of (left_of (dropped_numbers p) arrived))
-  pub may_drop : MayDrop line arrived (dropped_numbers p)
+  pub drops : DropsLawfully line arrived (dropped_numbers p)
   pub completed : (count_by is_completing p.seen ≡ 1) × (first_fault p.seen ≡ Some fault)
   pub readers : count_by is_closed p.seen ≡ workers
 

@@ -30,8 +30,8 @@ pub record SeatEnds (pipeline : Meaning) (workers : ℕ) (s : Seat) (e : SeatEnd
   pub closed : e.whole ≡ true → counts is_closed e.read ≡ workers
 
 -- a worker was told this fault at the end of its joint
-abbrev pub TellsFault : SeatEnd → Type 0
-TellsFault e = e.whole ≡ true → 0 < counts (is_closed_with (fault_number e.fault)) e.read
+abbrev pub IsToldFault : SeatEnd → Type 0
+IsToldFault e = e.whole ≡ true → 0 < counts (is_closed_with (fault_number e.fault)) e.read
 
 -- a pass that is there is of the joint at this index
 abbrev pub IsOfTo : List TableId → ℕ → Option LockPass → Type 0

@@ -35,7 +35,7 @@ fn complete_next<R: Wait>(
 
 /// Works off what the kit's joint gives, by as many workers as the kit says, the first of them in this
 /// thread and each other one in a thread of its own, and then completes the next joint with the fault that
-/// they were told. To start them takes no memory.
+/// they were told. Starting them takes no memory of the allocator.
 ///
 /// Worker i of stage j calls the gate with the number (j - 1) times the workers plus i. A worker without
 /// memory drains its joint, so that the crew completes the next one all the same.

@@ -3,7 +3,7 @@ ghost use Rattle.std.specs.Prelude.{◌≡◌, ℕ, ◌+◌, ◌-◌, ◌++◌, 
 ghost use Rattle.std.specs.Thread.{IsSync};
 ghost use Rattle.turn_lock.specs.Passes.{LockPass};
 ghost use Rattle.stage_pipeline.specs.Crews.{IsNewAtTo};
-ghost use Rattle.stage_pipeline.specs.Seats.{AreOfTo, IsOfTo, IsSeat, JoinsTo, SeatEnds, SplitsSeat, SplitsTo, TakesIn, TellsFault};
+ghost use Rattle.stage_pipeline.specs.Seats.{AreOfTo, IsOfTo, IsSeat, JoinsTo, SeatEnds, SplitsSeat, SplitsTo, TakesIn, IsToldFault};
 
 use crate::sides::joint_of;
 use crate::workers::{Job, WorkerEnd, work};
@@ -76,7 +76,7 @@ fn work_at<G: Gate, R: Wait>(
 ) -> SeatEnd
     requires { IsSeat (length pipeline.now.stages) joints.now 1 seat }
     ensures ends { SeatEnds pipeline.now 1 seat result }
-    ensures told { TellsFault result }
+    ensures told { IsToldFault result }
 {
     let Seat {
         stage,
@@ -222,7 +222,7 @@ fn work_last<G: Gate, R: Wait>(
 ) -> SeatEnd
     requires { IsSeat (length pipeline.now.stages) joints.now 2 seat }
     ensures ends { SeatEnds pipeline.now 1 seat result }
-    ensures told { TellsFault result }
+    ensures told { IsToldFault result }
 {
     let stage = seat.stage;
     let number = seat.number;
@@ -246,7 +246,7 @@ pub(crate) fn work_all<G: Gate, R: Wait + Threads + Sync>(
     requires some { 1 ≤ workers }
     requires seat { IsSeat (length pipeline.now.stages) joints.now (workers + 1) seat }
     ensures ends { SeatEnds pipeline.now workers seat result }
-    ensures told { TellsFault result }
+    ensures told { IsToldFault result }
 {
     if workers == 1 {
         return work_last(rt, alloc, pipeline, joints, gate, seat);
@@ -259,7 +259,7 @@ pub(crate) fn work_all<G: Gate, R: Wait + Threads + Sync>(
         rt,
         move || -> SeatEnd
             requires { IsSync R.row × IsSync G.row × IsSeat (length pipeline.now.stages) joints.now 1 other }
-            ensures { SeatEnds pipeline.entry.now 1 other result × TellsFault result }
+            ensures { SeatEnds pipeline.entry.now 1 other result × IsToldFault result }
         { work_at(rt, alloc, pipeline, joints, gate, other) },
         move || -> SeatEnd
             requires { IsSync R.row × IsSync G.row × (1 ≤ left) × IsSeat (length pipeline.now.stages) joints.now (left + 1) seat }
