@@ -32,12 +32,13 @@ module _ (t u v : Token) (count : ℕ) (before : LooksInVain count t u) (seen : 
         unseen = λ h. unseen;
       }
 
-  pub looks_out : LooksOut (suc count) t v
-  looks_out = record {
+  pub looks_out : (u.seen ≡ true → seen ≡ true) → LooksOut (suc count) t v
+  looks_out for_good = record {
     some = omega arith;
     looked = token_is (record t { looks = t.looks + suc count; seen = v.seen }) v same_word one_more refl;
     unseen = λ h. before.unseen (omega arith);
+    for_good = λ set. ap (λ (k : Token). k.seen) look ∙ for_good (ap (λ (k : Token). k.seen) before.looked ∙ set);
   }
 
   pub sees_at_last : seen ≡ true → SeesAtLast (suc count) t v
-  sees_at_last set = record { out = looks_out; seen = ap (λ (k : Token). k.seen) look ∙ set }
+  sees_at_last set = record { out = looks_out (λ h. set); seen = ap (λ (k : Token). k.seen) look ∙ set }

@@ -9,11 +9,12 @@ pub record LooksInVain (count : ℕ) (t u : Token) : Type 0 where
   pub unseen : 0 < count → t.seen ≡ false
 
 -- So many looks, at least one, of which only the last may have seen 1. If there was one before it, the
--- token had not seen 1 before them all.
+-- token had not seen 1 before them all. A token that had seen 1 still has.
 pub record LooksOut (count : ℕ) (t u : Token) : Type 0 where
   pub some : 0 < count
   pub looked : u ≡ record t { looks = t.looks + count; seen = u.seen }
   pub unseen : 1 < count → t.seen ≡ false
+  pub for_good : t.seen ≡ true → u.seen ≡ true
 
 -- So many looks, the last of which saw 1.
 pub record SeesAtLast (count : ℕ) (t u : Token) : Type 0 where
