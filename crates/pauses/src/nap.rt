@@ -32,19 +32,19 @@ pub struct Nap {
 impl Nap {
     /// The pauses of a wait that stands in the object. The place of its begin was noted.
     pub fn of_wait(want: Want) -> Nap {
-        Nap::new(want, true)
+        Nap::new(want, true, Pause::of_wait())
     }
 
     /// The pauses of a call that tries again and again. The object knows nothing of it.
     pub fn of_tries(want: Want) -> Nap {
-        Nap::new(want, false)
+        Nap::new(want, false, Pause::new())
     }
 
-    fn new(want: Want, stands: bool) -> Nap {
+    fn new(want: Want, stands: bool, pause: Pause) -> Nap {
         Nap {
             want,
             stands,
-            pause: Pause::new(),
+            pause,
             heard: None,
             most: FIRST_SLEEP,
         }

@@ -9,8 +9,12 @@ use std::time::Duration;
 /// the cache of its own core.
 const SPINS_OF_TURN: u32 = 64;
 
-/// How many spins the first pause of a call has that waits for another call.
-const SPINS_OF_CALL: u32 = 384;
+/// How many spins the first pause has of a caller that tries again and again.
+const SPINS_OF_TRIES: u32 = 256;
+
+/// How many spins the first pause of a wait has that stands in an object. Each of its polls is an entry,
+/// so it pauses for longer.
+const SPINS_OF_WAIT: u32 = 384;
 
 /// A pause of at least so many spins is a longest one.
 const MOST_SPINS: u32 = 2_048;
@@ -18,8 +22,9 @@ const MOST_SPINS: u32 = 2_048;
 /// How many microseconds a thread sleeps after the longest pause.
 const MOMENT: u64 = 20;
 
-/// How many sleeps are that short.
-const SHORT_SLEEPS: u32 = 8;
+/// How many sleeps are that short. All last some milliseconds together: for less than that a caller is
+/// back soon after there is something for it.
+const SHORT_SLEEPS: u32 = 64;
 
 /// How many microseconds a thread sleeps at most.
 const LONGEST: u64 = 1_000;
@@ -45,9 +50,14 @@ pub struct Pause {
 }
 
 impl Pause {
-    /// The pauses of a call that waits for other calls.
+    /// The pauses of a caller that tries again and again.
     pub fn new() -> Pause {
-        Pause::from_spins(SPINS_OF_CALL)
+        Pause::from_spins(SPINS_OF_TRIES)
+    }
+
+    /// The pauses of a wait that stands in an object.
+    pub fn of_wait() -> Pause {
+        Pause::from_spins(SPINS_OF_WAIT)
     }
 
     /// The pauses of a call that waits for the turn.
