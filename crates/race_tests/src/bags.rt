@@ -1,18 +1,20 @@
 // Threads that share a bag. A start line stands before their calls, so that these overlap.
-ghost use Rattle.std.specs.Prelude.{◌≡◌, ◌<◌, ◌≤◌, All, IfOk};
+ghost use Rattle.std.specs.Prelude.{◌≡◌, ◌<◌, ◌≤◌};
 
+use crate::splits::split_bag;
 use concurrent_bag::{BagAdd, BagPass, BagTake, ConcurrentBag};
-use races::{Countdown, StartLine, Tally, share};
+use races::{Countdown, Race, Tally, share};
 use std::alloc::Global;
 use std::sync::Wait;
 use std::test::Fail;
 use std::thread;
 use std::thread::Threads;
+use std::time::Clock;
 
-/// What threads wait for before their first call, and how many numbers have not been taken.
+/// The bag, and how many numbers have not been taken.
 #[derive(Drop)]
-struct Line {
-    start: StartLine,
+struct Bagging {
+    bag: ConcurrentBag<u64>,
     left: Countdown,
 }
 
@@ -26,12 +28,6 @@ enum Task {
     Both(u64),
 }
 
-#[derive(Drop)]
-struct Job {
-    pass: BagPass,
-    task: Task,
-}
-
 /// What a thread took. None where it met what it must not.
 type Outcome = Option<Tally>;
 
@@ -43,34 +39,37 @@ fn add_one<R: Wait>(rt: &R, bag: &ConcurrentBag<u64>, pass: &mut BagPass, number
     matches!(bag.add(rt, pass, number), Ok((BagAdd::Done, _)))
 }
 
+/// Adds the numbers. Where that failed those who take do not wait for the others.
 fn add_all<R: Wait>(
     rt: &R,
     bag: &ConcurrentBag<u64>,
     mut pass: BagPass,
     from: u64,
     to: u64,
+    left: &Countdown,
 ) -> Outcome
     requires { pass.table ≡ bag.now }
 {
     for number in from..to {
         if !add_one(rt, bag, &mut pass, number) {
+            left.give_up();
             return None;
         }
     }
     Some(Tally::default())
 }
 
-fn take_all<R: Wait>(rt: &R, bag: &ConcurrentBag<u64>, mut pass: BagPass, line: &Line) -> Tally
+fn take_all<R: Wait>(rt: &R, bag: &ConcurrentBag<u64>, mut pass: BagPass, left: &Countdown) -> Tally
     requires { pass.table ≡ bag.now }
 {
     let mut tally = Tally::default();
     for _ in rt.forever() {
-        if line.left.is_over() {
+        if left.is_over() {
             return tally;
         }
         match bag.take(rt, &mut pass) {
             (BagTake::Item { item, .. }, _) => {
-                line.left.count_off();
+                left.count_off();
                 tally = tally.with(item);
             }
             (BagTake::Empty, _) => thread::yield_now(),
@@ -102,76 +101,52 @@ fn add_and_take<R: Wait>(rt: &R, bag: &ConcurrentBag<u64>, mut pass: BagPass, ti
     Some(tally)
 }
 
-fn work<R: Wait>(rt: &R, bag: &ConcurrentBag<u64>, line: &Line, job: Job) -> Outcome
-    requires { job.pass.table ≡ bag.now }
-{
-    let Job { pass, task } = job;
-    line.start.start(rt);
-    match task {
-        Task::Add(from, to) => add_all(rt, bag, pass, from, to),
-        Task::Take => Some(take_all(rt, bag, pass, line)),
-        Task::Both(times) => add_and_take(rt, bag, pass, times),
-    }
-}
+impl Race for Bagging {
+    type Pass = BagPass;
 
-/// A job for each task, each with a pass split off.
-fn jobs_of(
-    alloc: Global,
-    bag: &ConcurrentBag<u64>,
-    pass: &mut BagPass,
-    tasks: Vec<Task>,
-) -> Result<Vec<Job>, Fail>
-    requires { pass.old.table ≡ bag.now }
-    ensures { IfOk result (λ jobs. All (λ job. job.pass.table ≡ bag.now) jobs.items) }
-{
-    let mut jobs = Vec::new(alloc);
-    for task in tasks {
-        if pass.spare() == 0 {
-            return Err(Fail::new("no number is left"));
+    type Task = Task;
+
+    type Outcome = Outcome;
+
+    ghost is_of = { λ race pass. pass.table ≡ race.bag };
+
+    fn split(&self, pass: &mut BagPass) -> Option<BagPass> {
+        split_bag(&self.bag, pass)
+    }
+
+    fn run<R: Wait + Clock>(&self, rt: &R, pass: BagPass, task: Task) -> Outcome {
+        match task {
+            Task::Add(from, to) => add_all(rt, &self.bag, pass, from, to, &self.left),
+            Task::Take => Some(take_all(rt, &self.bag, pass, &self.left)),
+            Task::Both(times) => add_and_take(rt, &self.bag, pass, times),
         }
-        let pass = bag.split(pass);
-        jobs.push(Job { pass, task })?;
     }
-    Ok(jobs)
-}
-
-/// What all threads together took.
-fn total(outcomes: &[Outcome]) -> Outcome {
-    let mut all = Tally::default();
-    for outcome in outcomes {
-        all = all.and((*outcome)?);
-    }
-    Some(all)
 }
 
 /// Runs the tasks on a new bag, each in a thread, until so many numbers are taken.
-fn run<R: Wait + Threads + Sync>(
+fn run<R: Wait + Threads + Sync + Clock>(
     rt: &R,
     alloc: Global,
     tasks: Vec<Task>,
     numbers: u64,
 ) -> Result<Outcome, Fail> {
-    let (bag, mut pass) = ConcurrentBag::new(alloc, 64)?;
-    let line = Line {
-        start: StartLine::new(tasks.len() as u64),
+    let (bag, pass) = ConcurrentBag::new(alloc, 64)?;
+    let race = Bagging {
+        bag,
         left: Countdown::new(numbers),
     };
-    let jobs = jobs_of(alloc, &bag, &mut pass, tasks)?;
-    let each = |job: Job| -> Outcome
-        requires { job.pass.table ≡ bag }
-    { work(rt, &bag, &line, job) };
-    let outcomes = thread::map_vec(rt, jobs, &each)?;
-    Ok(total(outcomes.as_slice()))
+    let outcomes = races::run(rt, alloc, &race, pass, tasks)?;
+    Ok(Tally::of_all(outcomes.as_slice()))
 }
 
 /// Whether adders and takers hand over the numbers below 16,000, each once. No list becomes full.
-fn hands_over<R: Wait + Threads + Sync>(
+fn hands_over<R: Wait + Threads + Sync + Clock>(
     rt: &R,
     alloc: Global,
     adders: u64,
     takers: u64,
 ) -> Result<bool, Fail>
-    requires { (0 < adders) × (adders ≤ 31) }
+    requires { (0 < adders) × (adders ≤ 32) }
 {
     let count = 16_000;
     let mut tasks = Vec::new(alloc);

@@ -1,20 +1,21 @@
 // Threads that share a collection. A start line stands before their calls, so that these overlap.
-ghost use Rattle.std.specs.Prelude.{◌≡◌, ◌<◌, ◌≤◌, All, IfOk};
+ghost use Rattle.std.specs.Prelude.{◌≡◌, ◌<◌, ◌≤◌};
 ghost use Rattle.std.specs.Option.{ForSome};
 
+use crate::splits::split_collection;
 use blocking_collection::{AddReply, BlockingCollection, Member, Pass, Store, TakeReply};
 use cancel_flag::{CancelToken, cancel_pair};
-use races::{Countdown, StartLine, Tally, share};
+use races::{Countdown, Race, Tally, share};
 use std::alloc::Global;
 use std::sync::Wait;
 use std::test::Fail;
-use std::thread;
 use std::thread::Threads;
+use std::time::Clock;
 
-/// What threads wait for before their first call, and the adders that have not ended.
+/// The collection, and the adders that have not ended.
 #[derive(Drop)]
-struct Line {
-    start: StartLine,
+struct Blocking {
+    collection: BlockingCollection<u64>,
     adders: Countdown,
 }
 
@@ -28,9 +29,11 @@ enum Task {
     Both(u64),
 }
 
+/// What a thread does, with the token of its calls. It is there before any thread starts, so that none
+/// ends for want of it while others wait for what it was to do.
 #[derive(Drop)]
 struct Job {
-    pass: Pass,
+    token: CancelToken,
     task: Task,
 }
 
@@ -90,52 +93,58 @@ fn add_and_take<R: Wait>(rt: &R, member: &mut Member<'_, u64>, times: u64) -> Ou
     Some((added, taken))
 }
 
-fn work<R: Wait>(
+/// Adds a thread's numbers. The last adder to end ends adding, also where an add failed.
+fn add_as_one_of<R: Wait>(
     rt: &R,
-    alloc: Global,
-    collection: &BlockingCollection<u64>,
-    line: &Line,
-    job: Job,
-) -> Outcome
-    requires { job.pass.table ≡ collection.now }
-{
-    let Job { pass, task } = job;
-    let mut member = Member::new(collection, pass);
-    line.start.start(rt);
-    let (_source, mut token) = cancel_pair(alloc).ok()?;
-    match task {
-        Task::Add(from, to) => {
-            let added = add_all(rt, &mut member, &mut token, from, to)?;
-            if line.adders.count_off() {
-                member.complete_adding(rt);
+    member: &mut Member<'_, u64>,
+    token: &mut CancelToken,
+    adders: &Countdown,
+    from: u64,
+    to: u64,
+) -> Option<Tally> {
+    let added = add_all(rt, member, token, from, to);
+    if adders.count_off() {
+        member.complete_adding(rt);
+    }
+    added
+}
+
+impl Race for Blocking {
+    type Pass = Pass;
+
+    type Task = Job;
+
+    type Outcome = Outcome;
+
+    ghost is_of = { λ race pass. pass.table ≡ race.collection };
+
+    fn split(&self, pass: &mut Pass) -> Option<Pass> {
+        split_collection(&self.collection, pass)
+    }
+
+    fn run<R: Wait + Clock>(&self, rt: &R, pass: Pass, job: Job) -> Outcome {
+        let Job { mut token, task } = job;
+        let mut member = Member::new(&self.collection, pass);
+        match task {
+            Task::Add(from, to) => {
+                let added = add_as_one_of(rt, &mut member, &mut token, &self.adders, from, to)?;
+                Some((added, Tally::default()))
             }
-            Some((added, Tally::default()))
+            Task::Take(most) => {
+                let taken = take_up_to(rt, &mut member, &mut token, most)?;
+                Some((Tally::default(), taken))
+            }
+            Task::Both(times) => add_and_take(rt, &mut member, times),
         }
-        Task::Take(most) => {
-            let taken = take_up_to(rt, &mut member, &mut token, most)?;
-            Some((Tally::default(), taken))
-        }
-        Task::Both(times) => add_and_take(rt, &mut member, times),
     }
 }
 
-/// A job for each task, each with a pass split off.
-fn jobs_of(
-    alloc: Global,
-    collection: &BlockingCollection<u64>,
-    pass: &mut Pass,
-    tasks: Vec<Task>,
-) -> Result<Vec<Job>, Fail>
-    requires { pass.old.table ≡ collection.now }
-    ensures { IfOk result (λ jobs. All (λ job. job.pass.table ≡ collection.now) jobs.items) }
-{
+/// A job for each task, each with a token of its own, which nobody sets.
+fn jobs_of(alloc: Global, tasks: Vec<Task>) -> Result<Vec<Job>, Fail> {
     let mut jobs = Vec::new(alloc);
     for task in tasks {
-        if !pass.has_spare() {
-            return Err(Fail::new("no number is left"));
-        }
-        let pass = collection.split(pass);
-        jobs.push(Job { pass, task })?;
+        let (_source, token) = cancel_pair(alloc)?;
+        jobs.push(Job { token, task })?;
     }
     Ok(jobs)
 }
@@ -153,7 +162,7 @@ fn total(outcomes: &[Outcome]) -> Outcome {
 }
 
 /// Runs the tasks on a new collection, each in a thread.
-fn run<R: Wait + Threads + Sync>(
+fn run<R: Wait + Threads + Sync + Clock>(
     rt: &R,
     alloc: Global,
     store: Store,
@@ -163,16 +172,13 @@ fn run<R: Wait + Threads + Sync>(
 ) -> Result<(Tally, Tally), Fail>
     requires { ForSome bound (λ n. (0 < n) × (n ≤ 65536)) }
 {
-    let (collection, mut pass) = BlockingCollection::new(alloc, store, bound, 64)?;
-    let line = Line {
-        start: StartLine::new(tasks.len() as u64),
+    let (collection, pass) = BlockingCollection::new(alloc, store, bound, 64)?;
+    let race = Blocking {
+        collection,
         adders: Countdown::new(adders),
     };
-    let jobs = jobs_of(alloc, &collection, &mut pass, tasks)?;
-    let each = |job: Job| -> Outcome
-        requires { job.pass.table ≡ collection }
-    { work(rt, alloc, &collection, &line, job) };
-    let outcomes = thread::map_vec(rt, jobs, &each)?;
+    let jobs = jobs_of(alloc, tasks)?;
+    let outcomes = races::run(rt, alloc, &race, pass, jobs)?;
     match total(outcomes.as_slice()) {
         Some(amounts) => Ok(amounts),
         None => Err(Fail::new("a thread met what it must not")),
@@ -181,7 +187,7 @@ fn run<R: Wait + Threads + Sync>(
 
 /// Adders of the numbers below `count`, each of its part.
 fn adders_of(alloc: Global, adders: u64, count: u64) -> Result<Vec<Task>, Fail>
-    requires { (0 < adders) × (adders ≤ 31) × (count ≤ 1000000) }
+    requires { (0 < adders) × (adders ≤ 32) × (count ≤ 1000000) }
 {
     let mut tasks = Vec::new(alloc);
     for i in 0..adders {
@@ -192,7 +198,7 @@ fn adders_of(alloc: Global, adders: u64, count: u64) -> Result<Vec<Task>, Fail>
 }
 
 /// Whether adders and takers hand over the numbers below `count`, each once.
-fn hands_over<R: Wait + Threads + Sync>(
+fn hands_over<R: Wait + Threads + Sync + Clock>(
     rt: &R,
     alloc: Global,
     store: Store,
@@ -201,7 +207,7 @@ fn hands_over<R: Wait + Threads + Sync>(
     takers: u64,
 ) -> Result<bool, Fail>
     requires bound { ForSome bound (λ n. (0 < n) × (n ≤ 65536)) }
-    requires adders { (0 < adders) × (adders ≤ 31) }
+    requires adders { (0 < adders) × (adders ≤ 32) }
 {
     let count = 20_000;
     let mut tasks = adders_of(alloc, adders, count)?;
@@ -221,7 +227,7 @@ fn each_number_is_handed_over_once(rt: HostRuntime) -> Result<(), Fail> {
 }
 
 /// Whether each of 16 threads finds an item whenever it has added one.
-fn finds_items<R: Wait + Threads + Sync>(
+fn finds_items<R: Wait + Threads + Sync + Clock>(
     rt: &R,
     alloc: Global,
     store: Store,

@@ -5,18 +5,20 @@
 #![tactic(auto)]
 
 #[cfg(test)]
+mod any_calls;
+#[cfg(test)]
 mod bags;
 #[cfg(test)]
 mod channel_calls;
 #[cfg(test)]
 mod channel_waits;
 #[cfg(test)]
-mod channel_wakes;
-#[cfg(test)]
-mod collection_wakes;
-#[cfg(test)]
 mod collections;
 #[cfg(test)]
 mod lags;
 #[cfg(test)]
 mod queues;
+#[cfg(test)]
+mod splits;
+#[cfg(test)]
+mod wakes;

@@ -1,7 +1,7 @@
 // Where threads wait for each other, and who of them is the last.
 use pauses::Pause;
 use std::sync::Wait;
-use std::sync::atomic::{AtomicU64, Ordering};
+use std::sync::atomic::{AtomicBool, AtomicU64, Ordering};
 use std::time::{Clock, Instant};
 
 /// How often a thread looks at the line at most, should others never come: some 20 seconds.
@@ -51,12 +51,14 @@ pub fn nanoseconds_since<R: Clock>(rt: &R, start: Instant) -> Option<u64> {
 #[derive(Drop)]
 pub struct Countdown {
     left: AtomicU64,
+    given_up: AtomicBool,
 }
 
 impl Countdown {
     pub fn new(left: u64) -> Countdown {
         Countdown {
             left: AtomicU64::new(left),
+            given_up: AtomicBool::new(false),
         }
     }
 
@@ -65,8 +67,13 @@ impl Countdown {
         self.left.fetch_sub(1, Ordering::SeqCst) == 1
     }
 
-    /// Whether none is left.
+    /// Says that the rest will not come, so that nobody waits for it.
+    pub fn give_up(&self) {
+        self.given_up.store(true, Ordering::SeqCst);
+    }
+
+    /// Whether none is left, or the rest is given up.
     pub fn is_over(&self) -> bool {
-        self.left.load(Ordering::SeqCst) == 0
+        self.left.load(Ordering::SeqCst) == 0 || self.given_up.load(Ordering::SeqCst)
     }
 }

@@ -35,6 +35,15 @@ impl Tally {
         Tally { count, sum }
     }
 
+    /// The tally of all, if each is there.
+    pub fn of_all(tallies: &[Option<Tally>]) -> Option<Tally> {
+        let mut all = Tally::default();
+        for tally in tallies {
+            all = all.and((*tally)?);
+        }
+        Some(all)
+    }
+
     /// The tally of both. What passes 2^64 wraps.
     pub fn and(self, other: Tally) -> Tally {
         Tally {
