@@ -1,16 +1,15 @@
 // Threads that each add items to one bag and take as many.
-ghost use Rattle.std.specs.Prelude.{◌≡◌, ◌<◌, ◌≤◌, All, IfOk};
+ghost use Rattle.std.specs.Prelude.{◌≡◌, ◌<◌, ◌≤◌, IfSome};
 
 use crate::Trouble;
-use crate::hand_over::{Job, Outcome, Task, longest, tasks_of};
+use crate::hand_over::{Outcome, Task, longest, tasks_of};
 use concurrent_bag::{BagAdd, BagPass, BagTake, ConcurrentBag};
 use pauses::Pause;
-use races::{StartLine, Tally};
+use races::{Race, Tally};
 use std::alloc::Global;
 use std::sync::Wait;
-use std::thread;
 use std::thread::Threads;
-use std::time::Clock;
+use std::time::{Clock, Instant};
 
 /// How many numbers a thread adds before it takes as many.
 const GROUP: u64 = 4;
@@ -76,42 +75,46 @@ fn add_and_take<R: Wait>(
     Some(sum.wrapping_add(take_some(rt, bag, &mut pass, added)?))
 }
 
-fn work<R: Wait + Clock>(
-    rt: &R,
-    bag: &ConcurrentBag<u64>,
-    line: &StartLine,
-    job: Job<BagPass>,
-) -> Outcome
-    requires { job.pass.table ≡ bag.now }
-{
-    let Job { pass, task } = job;
-    let start = line.timed_start(rt);
-    let sum = match task {
-        Task::Write(from, to) => add_and_take(rt, bag, pass, from, to),
-        Task::Read => None,
-    };
-    (start, sum)
+/// The bag that all threads share.
+#[derive(Drop)]
+struct Sharing<'r> {
+    bag: &'r ConcurrentBag<u64>,
 }
 
-/// A job for each task, each with a pass split off.
-pub fn jobs_of(
-    alloc: Global,
-    bag: &ConcurrentBag<u64>,
-    pass: &mut BagPass,
-    tasks: Vec<Task>,
-) -> Result<Vec<Job<BagPass>>, Trouble>
-    requires { pass.old.table ≡ bag.now }
-    ensures { IfOk result (λ jobs. All (λ job. job.pass.table ≡ bag.now) jobs.items) }
-{
-    let mut jobs = Vec::new(alloc);
-    for task in tasks {
-        if pass.spare() == 0 {
-            return Err(Trouble::NoNumber);
-        }
-        let pass = bag.split(pass);
-        jobs.push(Job { pass, task })?;
+impl<'r> Race for Sharing<'r> {
+    type Pass = BagPass;
+
+    type Task = Task;
+
+    type Outcome = Outcome;
+
+    ghost is_of = { λ race pass. pass.table ≡ race.bag.now };
+
+    fn split(&self, pass: &mut BagPass) -> Option<BagPass> {
+        split_off(self.bag, pass)
     }
-    Ok(jobs)
+
+    fn run<R: Wait + Clock>(&self, rt: &R, pass: BagPass, task: Task) -> Outcome {
+        let start = Instant::now(rt).ok();
+        let sum = match task {
+            Task::Write(from, to) => add_and_take(rt, self.bag, pass, from, to),
+            Task::Read => None,
+        };
+        (start, sum)
+    }
+}
+
+/// Splits a pass off, if a number is left.
+pub fn split_off(bag: &ConcurrentBag<u64>, pass: &mut BagPass) -> Option<BagPass>
+    requires { pass.old.table ≡ bag.now }
+    ensures kept { pass.new.table ≡ bag.now }
+    ensures split { IfSome result (λ other. other.table ≡ bag.now) }
+{
+    if pass.spare() == 0 {
+        None
+    } else {
+        Some(bag.split(pass))
+    }
 }
 
 /// How long so many threads take to add so many items, four at a time, and to take as many.
@@ -121,18 +124,12 @@ pub fn nanoseconds<R: Wait + Threads + Sync + Clock>(
     threads: u64,
     count: u64,
 ) -> Result<u64, Trouble>
-    requires callers { (0 < threads) × (threads ≤ 31) }
+    requires callers { (0 < threads) × (threads ≤ 32) }
     requires count { count ≤ 1000000000 }
 {
-    let (bag, mut pass) = ConcurrentBag::new(alloc, 64)?;
+    let (bag, pass) = ConcurrentBag::new(alloc, 64)?;
+    let race = Sharing { bag: &bag };
     let tasks = tasks_of(alloc, threads, 0, count)?;
-    let jobs = jobs_of(alloc, &bag, &mut pass, tasks)?;
-    let line = StartLine::new(threads);
-    let each = |job: Job<BagPass>| -> Outcome
-        requires { job.pass.table ≡ bag }
-    { work(rt, &bag, &line, job) };
-    match thread::map_vec(rt, jobs, &each) {
-        Ok(outcomes) => longest(rt, outcomes, Tally::below(count)),
-        Err(_) => Err(Trouble::NoMemory),
-    }
+    let outcomes = races::run(rt, alloc, &race, pass, tasks)?;
+    longest(rt, outcomes, Tally::below(count))
 }

@@ -1,16 +1,15 @@
 // Adders that hand numbers to takers through a blocking collection.
-ghost use Rattle.std.specs.Prelude.{◌≡◌, ◌<◌, ◌≤◌, All, IfOk};
+ghost use Rattle.std.specs.Prelude.{◌≡◌, ◌<◌, ◌≤◌};
 
 use crate::Trouble;
-use crate::hand_over::{Job, Outcome, Task, longest, tasks_of};
+use crate::hand_over::{Outcome, Task, longest, tasks_of};
 use blocking_collection::{AddReply, BlockingCollection, Member, Pass, Store, TakeReply};
 use cancel_flag::{CancelToken, cancel_pair};
-use races::{Countdown, StartLine, Tally};
+use races::{Countdown, Race, Tally};
 use std::alloc::Global;
 use std::sync::Wait;
-use std::thread;
 use std::thread::Threads;
-use std::time::Clock;
+use std::time::{Clock, Instant};
 
 /// Adds the numbers, and ends adding as the last adder.
 fn add_all<R: Wait>(
@@ -45,48 +44,43 @@ fn take_all<R: Wait>(rt: &R, member: &mut Member<'_, u64>, token: &mut CancelTok
     unreachable!()
 }
 
-fn work<R: Wait + Clock>(
-    rt: &R,
+/// What adders and takers share.
+#[derive(Drop)]
+struct Blocking<'r> {
     alloc: Global,
-    collection: &BlockingCollection<u64>,
-    line: &StartLine,
-    adders: &Countdown,
-    job: Job<Pass>,
-) -> Outcome
-    requires { job.pass.table ≡ collection.now }
-{
-    let Job { pass, task } = job;
-    let mut member = Member::new(collection, pass);
-    let start = line.timed_start(rt);
-    let Ok((_source, mut token)) = cancel_pair(alloc) else {
-        return (start, None);
-    };
-    let sum = match task {
-        Task::Write(from, to) => add_all(rt, &mut member, &mut token, adders, from, to),
-        Task::Read => take_all(rt, &mut member, &mut token),
-    };
-    (start, sum)
+    collection: &'r BlockingCollection<u64>,
+    adders: &'r Countdown,
 }
 
-/// A job for each task, each with a pass split off.
-fn jobs_of(
-    alloc: Global,
-    collection: &BlockingCollection<u64>,
-    pass: &mut Pass,
-    tasks: Vec<Task>,
-) -> Result<Vec<Job<Pass>>, Trouble>
-    requires { pass.old.table ≡ collection.now }
-    ensures { IfOk result (λ jobs. All (λ job. job.pass.table ≡ collection.now) jobs.items) }
-{
-    let mut jobs = Vec::new(alloc);
-    for task in tasks {
-        if !pass.has_spare() {
-            return Err(Trouble::NoNumber);
+impl<'r> Race for Blocking<'r> {
+    type Pass = Pass;
+
+    type Task = Task;
+
+    type Outcome = Outcome;
+
+    ghost is_of = { λ race pass. pass.table ≡ race.collection.now };
+
+    fn split(&self, pass: &mut Pass) -> Option<Pass> {
+        if pass.has_spare() {
+            Some(self.collection.split(pass))
+        } else {
+            None
         }
-        let pass = collection.split(pass);
-        jobs.push(Job { pass, task })?;
     }
-    Ok(jobs)
+
+    fn run<R: Wait + Clock>(&self, rt: &R, pass: Pass, task: Task) -> Outcome {
+        let start = Instant::now(rt).ok();
+        let Ok((_source, mut token)) = cancel_pair(self.alloc) else {
+            return (start, None);
+        };
+        let mut member = Member::new(self.collection, pass);
+        let sum = match task {
+            Task::Write(from, to) => { add_all(rt, &mut member, &mut token, self.adders, from, to) }
+            Task::Read => take_all(rt, &mut member, &mut token),
+        };
+        (start, sum)
+    }
 }
 
 /// How long adders take to hand so many numbers to takers through a collection with bound 1024.
@@ -97,19 +91,16 @@ pub fn nanoseconds<R: Wait + Threads + Sync + Clock>(
     takers: u64,
     count: u64,
 ) -> Result<u64, Trouble>
-    requires callers { (0 < adders) × (adders ≤ 31) × (takers ≤ 31) }
+    requires callers { (0 < adders) × (adders ≤ 32) × (takers ≤ 32) }
     requires count { count ≤ 1000000000 }
 {
-    let (collection, mut pass) = BlockingCollection::new(alloc, Store::Fifo, Some(1024), 64)?;
+    let (collection, pass) = BlockingCollection::new(alloc, Store::Fifo, Some(1024), 64)?;
+    let race = Blocking {
+        alloc,
+        collection: &collection,
+        adders: &Countdown::new(adders),
+    };
     let tasks = tasks_of(alloc, adders, takers, count)?;
-    let jobs = jobs_of(alloc, &collection, &mut pass, tasks)?;
-    let line = StartLine::new(adders + takers);
-    let adding = Countdown::new(adders);
-    let each = |job: Job<Pass>| -> Outcome
-        requires { job.pass.table ≡ collection }
-    { work(rt, alloc, &collection, &line, &adding, job) };
-    match thread::map_vec(rt, jobs, &each) {
-        Ok(outcomes) => longest(rt, outcomes, Tally::below(count)),
-        Err(_) => Err(Trouble::NoMemory),
-    }
+    let outcomes = races::run(rt, alloc, &race, pass, tasks)?;
+    longest(rt, outcomes, Tally::below(count))
 }

@@ -1,13 +1,12 @@
 // Writers that hand numbers to readers.
-ghost use Rattle.std.specs.Prelude.{◌≡◌, ◌<◌, ◌≤◌, All, IfOk};
+ghost use Rattle.std.specs.Prelude.{◌≡◌, ◌<◌, ◌≤◌, IfSome};
 
 use crate::Trouble;
 use channels::{Channel, Mode, NoMemory, Pass, ReadReply, Reader, WriteReply, Writer};
 use pauses::Pause;
-use races::{Countdown, StartLine, Tally, nanoseconds_since, share};
+use races::{Countdown, Race, Tally, nanoseconds_since, share};
 use std::alloc::Global;
 use std::sync::Wait;
-use std::thread;
 use std::thread::Threads;
 use std::time::{Clock, Instant};
 
@@ -18,12 +17,6 @@ pub enum Task {
     Write(u64, u64),
     /// Reads to the end.
     Read,
-}
-
-#[derive(Drop)]
-pub struct Job<P> {
-    pub pass: P,
-    pub task: Task,
 }
 
 /// When a thread started, and the sum of what it read. None where it met what it must not.
@@ -77,45 +70,50 @@ fn read_all<R: Wait + Clock>(rt: &R, reader: &mut Reader<'_, u64>) -> Option<u64
     unreachable!()
 }
 
-fn work<R: Wait + Clock>(
-    rt: &R,
-    channel: &Channel<u64>,
-    line: &StartLine,
-    writers: &Countdown,
-    job: Job<Pass>,
-) -> Outcome
-    requires { job.pass.table ≡ channel.now }
-{
-    let Job { pass, task } = job;
-    let start = line.timed_start(rt);
-    let sum = match task {
-        Task::Write(from, to) => {
-            write_all(rt, &mut Writer::new(channel, pass), writers, from, to)
-        }
-        Task::Read => read_all(rt, &mut Reader::new(channel, pass)),
-    };
-    (start, sum)
+/// What writers and readers share.
+#[derive(Drop)]
+struct HandOver<'r> {
+    channel: &'r Channel<u64>,
+    writers: &'r Countdown,
 }
 
-/// A job for each task, each with a pass split off.
-pub fn jobs_of(
-    alloc: Global,
-    channel: &Channel<u64>,
-    pass: &mut Pass,
-    tasks: Vec<Task>,
-) -> Result<Vec<Job<Pass>>, Trouble>
-    requires { pass.old.table ≡ channel.now }
-    ensures { IfOk result (λ jobs. All (λ job. job.pass.table ≡ channel.now) jobs.items) }
-{
-    let mut jobs = Vec::new(alloc);
-    for task in tasks {
-        if !pass.has_spare() {
-            return Err(Trouble::NoNumber);
-        }
-        let pass = channel.split(pass);
-        jobs.push(Job { pass, task })?;
+impl<'r> Race for HandOver<'r> {
+    type Pass = Pass;
+
+    type Task = Task;
+
+    type Outcome = Outcome;
+
+    ghost is_of = { λ race pass. pass.table ≡ race.channel.now };
+
+    fn split(&self, pass: &mut Pass) -> Option<Pass> {
+        split_off(self.channel, pass)
     }
-    Ok(jobs)
+
+    fn run<R: Wait + Clock>(&self, rt: &R, pass: Pass, task: Task) -> Outcome {
+        let start = Instant::now(rt).ok();
+        let sum = match task {
+            Task::Write(from, to) => {
+                let mut writer = Writer::new(self.channel, pass);
+                write_all(rt, &mut writer, self.writers, from, to)
+            }
+            Task::Read => read_all(rt, &mut Reader::new(self.channel, pass)),
+        };
+        (start, sum)
+    }
+}
+
+/// Splits a pass off, if a number is left.
+pub fn split_off(channel: &Channel<u64>, pass: &mut Pass) -> Option<Pass>
+    requires { pass.old.table ≡ channel.now }
+    ensures kept { pass.new.table ≡ channel.now }
+    ensures split { IfSome result (λ other. other.table ≡ channel.now) }
+{
+    if pass.has_spare() {
+        Some(channel.split(pass))
+    } else {
+        None
+    }
 }
 
 /// So many writers, each with its part of the numbers, and so many readers.
@@ -125,7 +123,7 @@ pub fn tasks_of(
     readers: u64,
     count: u64,
 ) -> Result<Vec<Task>, NoMemory>
-    requires callers { (0 < writers) × (writers ≤ 31) }
+    requires callers { (0 < writers) × (writers ≤ 32) }
     requires count { count ≤ 1000000000 }
 {
     let mut tasks = Vec::new(alloc);
@@ -163,21 +161,17 @@ pub fn nanoseconds<R: Wait + Threads + Sync + Clock>(
     readers: u64,
     count: u64,
 ) -> Result<u64, Trouble>
-    requires callers { (0 < writers) × (writers ≤ 31) × (readers ≤ 31) }
+    requires callers { (0 < writers) × (writers ≤ 32) × (readers ≤ 32) }
     requires count { count ≤ 1000000000 }
 {
-    let Ok((channel, mut pass)) = Channel::bounded(alloc, 1024, Mode::Wait, 64) else {
+    let Ok((channel, pass)) = Channel::bounded(alloc, 1024, Mode::Wait, 64) else {
         return Err(Trouble::NoMemory);
     };
+    let race = HandOver {
+        channel: &channel,
+        writers: &Countdown::new(writers),
+    };
     let tasks = tasks_of(alloc, writers, readers, count)?;
-    let jobs = jobs_of(alloc, &channel, &mut pass, tasks)?;
-    let line = StartLine::new(writers + readers);
-    let writing = Countdown::new(writers);
-    let each = |job: Job<Pass>| -> Outcome
-        requires { job.pass.table ≡ channel }
-    { work(rt, &channel, &line, &writing, job) };
-    match thread::map_vec(rt, jobs, &each) {
-        Ok(outcomes) => longest(rt, outcomes, Tally::below(count)),
-        Err(_) => Err(Trouble::NoMemory),
-    }
+    let outcomes = races::run(rt, alloc, &race, pass, tasks)?;
+    longest(rt, outcomes, Tally::below(count))
 }

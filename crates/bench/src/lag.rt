@@ -1,12 +1,12 @@
 // How long an item is on its way to a reader that has waited long.
-ghost use Rattle.std.specs.Prelude.{◌≡◌, ◌<◌, ◌≤◌, All, IfOk};
+ghost use Rattle.std.specs.Prelude.{◌≡◌, ◌≤◌};
 
 use crate::Trouble;
-use crate::hand_over::{Job, Task, jobs_of, tasks_of};
+use crate::hand_over::{Task, split_off, tasks_of};
 use cancel_flag::{CancelToken, cancel_pair};
 use channel_wait::{ReadEnd, WriteEnd, read, write};
 use channels::{Channel, Mode, Pass, Reader, Writer};
-use races::nanoseconds_since;
+use races::{Race, nanoseconds_since};
 use std::alloc::Global;
 use std::sync::Wait;
 use std::thread;
@@ -62,35 +62,43 @@ fn read_times<R: Wait + Clock>(
     unreachable!()
 }
 
-fn work<R: Wait + Clock>(
-    rt: &R,
+/// What the writer and the readers share, with the time that all times are told from.
+#[derive(Drop)]
+struct Lagging<'r> {
     alloc: Global,
-    channel: &Channel<u64>,
+    channel: &'r Channel<u64>,
     start: Instant,
-    job: Job<Pass>,
-) -> Lags
-    requires { job.pass.table ≡ channel.now }
-{
-    let Job { pass, task } = job;
-    let Ok((_source, mut token)) = cancel_pair(alloc) else {
-        return None;
-    };
-    match task {
-        Task::Write(_, count) => {
-            let mut writer = Writer::new(channel, pass);
-            if write_times(rt, &mut writer, &mut token, start, count) {
-                Some(Vec::new(alloc))
-            } else {
-                None
+}
+
+impl<'r> Race for Lagging<'r> {
+    type Pass = Pass;
+
+    type Task = Task;
+
+    type Outcome = Lags;
+
+    ghost is_of = { λ race pass. pass.table ≡ race.channel.now };
+
+    fn split(&self, pass: &mut Pass) -> Option<Pass> {
+        split_off(self.channel, pass)
+    }
+
+    fn run<R: Wait + Clock>(&self, rt: &R, pass: Pass, task: Task) -> Lags {
+        let (_source, mut token) = cancel_pair(self.alloc).ok()?;
+        match task {
+            Task::Write(_, count) => {
+                let mut writer = Writer::new(self.channel, pass);
+                if write_times(rt, &mut writer, &mut token, self.start, count) {
+                    Some(Vec::new(self.alloc))
+                } else {
+                    None
+                }
+            }
+            Task::Read => {
+                let mut reader = Reader::new(self.channel, pass);
+                read_times(rt, self.alloc, &mut reader, &mut token, self.start)
             }
         }
-        Task::Read => read_times(
-            rt,
-            alloc,
-            &mut Reader::new(channel, pass),
-            &mut token,
-            start,
-        ),
     }
 }
 
@@ -113,24 +121,23 @@ pub fn nanoseconds<R: Wait + Threads + Sync + Clock>(
     count: u64,
     percent: u64,
 ) -> Result<u64, Trouble>
-    requires readers { readers ≤ 31 }
+    requires readers { readers ≤ 32 }
     requires count { count ≤ 1000000000 }
     requires percent { percent ≤ 100 }
 {
-    let Ok((channel, mut pass)) = Channel::bounded(alloc, 16, Mode::Wait, 64) else {
+    let Ok((channel, pass)) = Channel::bounded(alloc, 16, Mode::Wait, 64) else {
         return Err(Trouble::NoMemory);
     };
-    let tasks = tasks_of(alloc, 1, readers, count)?;
-    let jobs = jobs_of(alloc, &channel, &mut pass, tasks)?;
     let Ok(start) = Instant::now(rt) else {
         return Err(Trouble::NoClock);
     };
-    let each = |job: Job<Pass>| -> Lags
-        requires { job.pass.table ≡ channel }
-    { work(rt, alloc, &channel, start, job) };
-    let Ok(outcomes) = thread::map_vec(rt, jobs, &each) else {
-        return Err(Trouble::NoMemory);
+    let race = Lagging {
+        alloc,
+        channel: &channel,
+        start,
     };
+    let tasks = tasks_of(alloc, 1, readers, count)?;
+    let outcomes = races::run(rt, alloc, &race, pass, tasks)?;
     let mut all = together(alloc, outcomes)?;
     all.sort_unstable();
     let place = count * percent / 100;

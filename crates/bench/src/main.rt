@@ -18,6 +18,7 @@ mod steal;
 mod waits;
 
 use channels::NoMemory;
+use races::RaceError;
 use std::alloc::{AllocFailed, Global};
 use std::io::Print;
 use std::process::ExitCode;
@@ -46,14 +47,24 @@ impl From<NoMemory> for Trouble {
     }
 }
 
+impl From<RaceError> for Trouble {
+    fn from(error: RaceError) -> Self {
+        match error {
+            RaceError::NoMemory => Trouble::NoMemory,
+            RaceError::NoNumber => Trouble::NoNumber,
+            RaceError::WentWrong => Trouble::WrongNumbers,
+        }
+    }
+}
+
 impl<T: Drop> From<AllocFailed<T>> for Trouble {
     fn from(_: AllocFailed<T>) -> Self {
         Trouble::NoMemory
     }
 }
 
-/// The most writers, and the most readers. With the pass that is kept they have 63 numbers.
-const MOST_CALLERS: u64 = 31;
+/// The most writers, and the most readers. Together they have all 64 numbers.
+const MOST_CALLERS: u64 = 32;
 
 /// The most operations of a run.
 const MOST_OPERATIONS: u64 = 1_000_000_000;
@@ -75,7 +86,7 @@ fn print_usage(rt: &impl Print) -> io::Result<()> {
     println!(rt; "lag50, lag90, lag99: one writer writes an item every 2 ms to C idle readers")?;
     println!(rt; "idle: C readers wait on an empty channel for N nanoseconds")?;
     println!(rt;
-        "P and C are 1 to 31, N is 1 to 1000000000; C is 0 for pairs and bag, P is 1 for steal, lag and idle"
+        "P and C are 1 to 32, N is 1 to 1000000000; C is 0 for pairs and bag, P is 1 for steal, lag and idle"
     )?;
     Ok(())
 }

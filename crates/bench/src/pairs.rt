@@ -1,16 +1,15 @@
 // Threads that each enqueue a number and dequeue one, on one queue.
-ghost use Rattle.std.specs.Prelude.{◌≡◌, ◌<◌, ◌≤◌, All, IfOk};
+ghost use Rattle.std.specs.Prelude.{◌<◌, ◌≤◌};
 ghost use Rattle.concurrent_queue.specs.Queues.{IsOf};
 
 use crate::Trouble;
-use crate::hand_over::{Job, Outcome, Task, longest, tasks_of};
+use crate::hand_over::{Outcome, Task, longest, tasks_of};
 use concurrent_queue::{ConcurrentQueue, DequeueReply, EnqueueReply, QueuePass};
-use races::{StartLine, Tally};
+use races::{Race, Tally};
 use std::alloc::Global;
 use std::sync::Wait;
-use std::thread;
 use std::thread::Threads;
-use std::time::Clock;
+use std::time::{Clock, Instant};
 
 /// Enqueues a number, and gives the one that it dequeues then.
 fn pair<R: Wait>(rt: &R, queue: &ConcurrentQueue, pass: &mut QueuePass, number: u64) -> Option<u64>
@@ -41,42 +40,37 @@ fn pair_all<R: Wait>(
     Some(sum)
 }
 
-fn work<R: Wait + Clock>(
-    rt: &R,
-    queue: &ConcurrentQueue,
-    line: &StartLine,
-    job: Job<QueuePass>,
-) -> Outcome
-    requires { IsOf queue.now job.pass }
-{
-    let Job { pass, task } = job;
-    let start = line.timed_start(rt);
-    let sum = match task {
-        Task::Write(from, to) => pair_all(rt, queue, pass, from, to),
-        Task::Read => None,
-    };
-    (start, sum)
+/// The queue that all threads share.
+#[derive(Drop)]
+struct Pairs<'r> {
+    queue: &'r ConcurrentQueue,
 }
 
-/// A job for each task, each with a pass split off.
-fn jobs_of(
-    alloc: Global,
-    queue: &ConcurrentQueue,
-    pass: &mut QueuePass,
-    tasks: Vec<Task>,
-) -> Result<Vec<Job<QueuePass>>, Trouble>
-    requires { IsOf queue.now pass.old }
-    ensures { IfOk result (λ jobs. All (λ job. IsOf queue.now job.pass) jobs.items) }
-{
-    let mut jobs = Vec::new(alloc);
-    for task in tasks {
+impl<'r> Race for Pairs<'r> {
+    type Pass = QueuePass;
+
+    type Task = Task;
+
+    type Outcome = Outcome;
+
+    ghost is_of = { λ race pass. IsOf race.queue.now pass };
+
+    fn split(&self, pass: &mut QueuePass) -> Option<QueuePass> {
         if pass.spare() == 0 {
-            return Err(Trouble::NoNumber);
+            None
+        } else {
+            Some(self.queue.split(pass))
         }
-        let pass = queue.split(pass);
-        jobs.push(Job { pass, task })?;
     }
-    Ok(jobs)
+
+    fn run<R: Wait + Clock>(&self, rt: &R, pass: QueuePass, task: Task) -> Outcome {
+        let start = Instant::now(rt).ok();
+        let sum = match task {
+            Task::Write(from, to) => pair_all(rt, self.queue, pass, from, to),
+            Task::Read => None,
+        };
+        (start, sum)
+    }
 }
 
 /// How long so many threads take to make so many pairs.
@@ -86,20 +80,14 @@ pub fn nanoseconds<R: Wait + Threads + Sync + Clock>(
     threads: u64,
     count: u64,
 ) -> Result<u64, Trouble>
-    requires callers { (0 < threads) × (threads ≤ 31) }
+    requires callers { (0 < threads) × (threads ≤ 32) }
     requires count { count ≤ 1000000000 }
 {
-    let Ok((queue, mut pass)) = ConcurrentQueue::new(alloc, 1024, 32, 64) else {
+    let Ok((queue, pass)) = ConcurrentQueue::new(alloc, 1024, 32, 64) else {
         return Err(Trouble::NoMemory);
     };
+    let race = Pairs { queue: &queue };
     let tasks = tasks_of(alloc, threads, 0, count)?;
-    let jobs = jobs_of(alloc, &queue, &mut pass, tasks)?;
-    let line = StartLine::new(threads);
-    let each = |job: Job<QueuePass>| -> Outcome
-        requires { IsOf queue job.pass }
-    { work(rt, &queue, &line, job) };
-    match thread::map_vec(rt, jobs, &each) {
-        Ok(outcomes) => longest(rt, outcomes, Tally::below(count)),
-        Err(_) => Err(Trouble::NoMemory),
-    }
+    let outcomes = races::run(rt, alloc, &race, pass, tasks)?;
+    longest(rt, outcomes, Tally::below(count))
 }

@@ -2,16 +2,15 @@
 ghost use Rattle.std.specs.Prelude.{◌≡◌, ◌<◌, ◌≤◌};
 
 use crate::Trouble;
-use crate::bag::{add_one, jobs_of};
-use crate::hand_over::{Job, Outcome, Task, longest, tasks_of};
+use crate::bag::{add_one, split_off};
+use crate::hand_over::{Outcome, Task, longest, tasks_of};
 use concurrent_bag::{BagPass, BagTake, ConcurrentBag};
 use pauses::Pause;
-use races::{Countdown, StartLine, Tally};
+use races::{Countdown, Race, Tally};
 use std::alloc::Global;
 use std::sync::Wait;
-use std::thread;
 use std::thread::Threads;
-use std::time::Clock;
+use std::time::{Clock, Instant};
 
 fn add_all<R: Wait>(
     rt: &R,
@@ -55,22 +54,35 @@ fn steal_all<R: Wait>(
     unreachable!()
 }
 
-fn work<R: Wait + Clock>(
-    rt: &R,
-    bag: &ConcurrentBag<u64>,
-    line: &StartLine,
-    left: &Countdown,
-    job: Job<BagPass>,
-) -> Outcome
-    requires { job.pass.table ≡ bag.now }
-{
-    let Job { pass, task } = job;
-    let start = line.timed_start(rt);
-    let sum = match task {
-        Task::Write(from, to) => add_all(rt, bag, pass, from, to),
-        Task::Read => steal_all(rt, bag, pass, left),
-    };
-    (start, sum)
+/// What the adder and the takers share: the bag, and the count of the items that are to be taken, which
+/// stands apart from the words of the bag.
+#[derive(Drop)]
+struct Stealing<'r> {
+    bag: &'r ConcurrentBag<u64>,
+    left: &'r Countdown,
+}
+
+impl<'r> Race for Stealing<'r> {
+    type Pass = BagPass;
+
+    type Task = Task;
+
+    type Outcome = Outcome;
+
+    ghost is_of = { λ race pass. pass.table ≡ race.bag.now };
+
+    fn split(&self, pass: &mut BagPass) -> Option<BagPass> {
+        split_off(self.bag, pass)
+    }
+
+    fn run<R: Wait + Clock>(&self, rt: &R, pass: BagPass, task: Task) -> Outcome {
+        let start = Instant::now(rt).ok();
+        let sum = match task {
+            Task::Write(from, to) => add_all(rt, self.bag, pass, from, to),
+            Task::Read => steal_all(rt, self.bag, pass, self.left),
+        };
+        (start, sum)
+    }
 }
 
 /// How long so many takers take to steal so many items that one thread adds.
@@ -80,19 +92,15 @@ pub fn nanoseconds<R: Wait + Threads + Sync + Clock>(
     takers: u64,
     count: u64,
 ) -> Result<u64, Trouble>
-    requires callers { takers ≤ 31 }
+    requires callers { takers ≤ 32 }
     requires count { count ≤ 1000000000 }
 {
-    let (bag, mut pass) = ConcurrentBag::new(alloc, 64)?;
+    let (bag, pass) = ConcurrentBag::new(alloc, 64)?;
+    let race = Stealing {
+        bag: &bag,
+        left: &Countdown::new(count),
+    };
     let tasks = tasks_of(alloc, 1, takers, count)?;
-    let jobs = jobs_of(alloc, &bag, &mut pass, tasks)?;
-    let line = StartLine::new(1 + takers);
-    let left = Countdown::new(count);
-    let each = |job: Job<BagPass>| -> Outcome
-        requires { job.pass.table ≡ bag }
-    { work(rt, &bag, &line, &left, job) };
-    match thread::map_vec(rt, jobs, &each) {
-        Ok(outcomes) => longest(rt, outcomes, Tally::below(count)),
-        Err(_) => Err(Trouble::NoMemory),
-    }
+    let outcomes = races::run(rt, alloc, &race, pass, tasks)?;
+    longest(rt, outcomes, Tally::below(count))
 }

@@ -2,16 +2,15 @@
 ghost use Rattle.std.specs.Prelude.{◌≡◌, ◌<◌, ◌≤◌};
 
 use crate::Trouble;
-use crate::hand_over::{Job, Outcome, Task, jobs_of, longest, tasks_of};
+use crate::hand_over::{Outcome, Task, longest, split_off, tasks_of};
 use cancel_flag::{CancelToken, cancel_pair};
 use channel_wait::{ReadEnd, WriteEnd, read, write};
 use channels::{Channel, Mode, Pass, Reader, Writer};
-use races::{Countdown, StartLine, Tally};
+use races::{Countdown, Race, Tally};
 use std::alloc::Global;
 use std::sync::Wait;
-use std::thread;
 use std::thread::Threads;
-use std::time::Clock;
+use std::time::{Clock, Instant};
 
 /// Writes the numbers, and completes the channel as the last writer.
 fn write_all<R: Wait>(
@@ -46,29 +45,41 @@ fn read_all<R: Wait>(rt: &R, reader: &mut Reader<'_, u64>, token: &mut CancelTok
     unreachable!()
 }
 
-fn work<R: Wait + Clock>(
-    rt: &R,
+/// What writers and readers share.
+#[derive(Drop)]
+struct Waiting<'r> {
     alloc: Global,
-    channel: &Channel<u64>,
-    line: &StartLine,
-    writers: &Countdown,
-    job: Job<Pass>,
-) -> Outcome
-    requires { job.pass.table ≡ channel.now }
-{
-    let Job { pass, task } = job;
-    let start = line.timed_start(rt);
-    let Ok((_source, mut token)) = cancel_pair(alloc) else {
-        return (start, None);
-    };
-    let sum = match task {
-        Task::Write(from, to) => {
-            let mut writer = Writer::new(channel, pass);
-            write_all(rt, &mut writer, &mut token, writers, from, to)
-        }
-        Task::Read => read_all(rt, &mut Reader::new(channel, pass), &mut token),
-    };
-    (start, sum)
+    channel: &'r Channel<u64>,
+    writers: &'r Countdown,
+}
+
+impl<'r> Race for Waiting<'r> {
+    type Pass = Pass;
+
+    type Task = Task;
+
+    type Outcome = Outcome;
+
+    ghost is_of = { λ race pass. pass.table ≡ race.channel.now };
+
+    fn split(&self, pass: &mut Pass) -> Option<Pass> {
+        split_off(self.channel, pass)
+    }
+
+    fn run<R: Wait + Clock>(&self, rt: &R, pass: Pass, task: Task) -> Outcome {
+        let start = Instant::now(rt).ok();
+        let Ok((_source, mut token)) = cancel_pair(self.alloc) else {
+            return (start, None);
+        };
+        let sum = match task {
+            Task::Write(from, to) => {
+                let mut writer = Writer::new(self.channel, pass);
+                write_all(rt, &mut writer, &mut token, self.writers, from, to)
+            }
+            Task::Read => read_all(rt, &mut Reader::new(self.channel, pass), &mut token),
+        };
+        (start, sum)
+    }
 }
 
 /// How long writers take to hand so many numbers to readers, each call with a token that is not set.
@@ -79,21 +90,18 @@ pub fn nanoseconds<R: Wait + Threads + Sync + Clock>(
     readers: u64,
     count: u64,
 ) -> Result<u64, Trouble>
-    requires callers { (0 < writers) × (writers ≤ 31) × (readers ≤ 31) }
+    requires callers { (0 < writers) × (writers ≤ 32) × (readers ≤ 32) }
     requires count { count ≤ 1000000000 }
 {
-    let Ok((channel, mut pass)) = Channel::bounded(alloc, 16, Mode::Wait, 64) else {
+    let Ok((channel, pass)) = Channel::bounded(alloc, 16, Mode::Wait, 64) else {
         return Err(Trouble::NoMemory);
     };
+    let race = Waiting {
+        alloc,
+        channel: &channel,
+        writers: &Countdown::new(writers),
+    };
     let tasks = tasks_of(alloc, writers, readers, count)?;
-    let jobs = jobs_of(alloc, &channel, &mut pass, tasks)?;
-    let line = StartLine::new(writers + readers);
-    let writing = Countdown::new(writers);
-    let each = |job: Job<Pass>| -> Outcome
-        requires { job.pass.table ≡ channel }
-    { work(rt, alloc, &channel, &line, &writing, job) };
-    match thread::map_vec(rt, jobs, &each) {
-        Ok(outcomes) => longest(rt, outcomes, Tally::below(count)),
-        Err(_) => Err(Trouble::NoMemory),
-    }
+    let outcomes = races::run(rt, alloc, &race, pass, tasks)?;
+    longest(rt, outcomes, Tally::below(count))
 }
