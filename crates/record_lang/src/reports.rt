@@ -62,6 +62,30 @@ impl Report {
         }
     }
 
+    /// Of a run without joints that may drop, with these outcomes. The list is taken as it is, and no memory
+    /// is.
+    pub fn of(alloc: Global, outcomes: Vec<Outcome>) -> Report
+        ensures { result ≡ record { outcomes = outcomes.items; has_drops = false; dropped = [] } }
+    {
+        Report {
+            outcomes,
+            has_drops: false,
+            dropped: Vec::new(alloc),
+        }
+    }
+
+    /// Of a run with a joint that may drop, with these outcomes and dropped records. Both lists are taken
+    /// as they are, and no memory is.
+    pub fn of_drops(outcomes: Vec<Outcome>, dropped: Vec<Dropped>) -> Report
+        ensures { result ≡ record { outcomes = outcomes.items; has_drops = true; dropped = dropped.items } }
+    {
+        Report {
+            outcomes,
+            has_drops: true,
+            dropped,
+        }
+    }
+
     /// One more outcome. Without memory for it the report stays as it was.
     pub fn push(&mut self, outcome: Outcome) -> Result<(), Unpaid<Outcome>>
         ensures pushed { OnOk result (self.new ≡ record self.old { outcomes = self.old.outcomes ++ outcome ∷ [] }) }

@@ -1,5 +1,5 @@
 -- What a call that waits adds to the weights of its pass's own entries.
-use Rattle.std.specs.Prelude.{ℕ, List, [], ◌∷◌, ◌++◌, Bool, false, true, cond, replicate, zero, suc, Some, slice_get}
+use Rattle.std.specs.Prelude.{ℕ, List, [], ◌∷◌, ◌++◌, Bool, false, true, cond, not, replicate, zero, suc, Some, slice_get}
 use Rattle.std.specs.List.{sum_by}
 use Rattle.std.proofs.Common.{◌≡◌, refl, ap, ◌∙◌, subst, ◌+◌, arith, inl, inr}
 use Rattle.std.proofs.lemmas.Option.{same_Some}
@@ -25,6 +25,7 @@ use Rattle.record_lang.specs.Records.{Row}
 use Rattle.wait_loop.specs.Own.{standing_polls, polls_and_last, PollsOut}
 use Rattle.channel_flow.specs.Items.{written_in, taken_in, dropped_in, refused_in, given_back_in, gives, loses, weight}
 use Rattle.channel_flow.specs.Ends.{is_begun, is_finished, is_closed_reply, is_closed, is_closed_reply_with, is_closed_with, is_completing}
+use Rattle.stage_pipeline.specs.Callers.{is_known, strays}
 use Rattle.stage_pipeline.specs.Works.{weighs, lost_by, Sends, Takes}
 
 none_weigh : (f : EntryMark → ℕ) (e : EntryMark) → f e ≡ 0 → (k : ℕ) → sum_by f (replicate k e) ≡ 0
@@ -108,6 +109,7 @@ module _ (p q : LockPass) (same : IsSamePass p q) where
       waits_none priority BeginRead (Item m) (weight h given_back_in) refl (λ n. refl) (λ n. refl) (λ n. refl) out,
     );
     uncompleting = waits_none priority BeginRead (Item m) (λ e. cond (is_completing e) 1 0) refl (λ n. refl) (λ n. refl) (λ n. refl) out;
+    alone = waits_none priority BeginRead (Item m) (λ e. cond (strays true e) 1 0) refl (λ n. refl) (λ n. refl) (λ n. refl) out;
   }
 
   takes_end : (priority : Mark → ℕ) (fault : ℕ) → PollsOut priority BeginRead p q (ClosedWith fault) → Takes (ClosedWith fault) p q
@@ -123,6 +125,7 @@ module _ (p q : LockPass) (same : IsSamePass p q) where
       waits_none priority BeginRead (ClosedWith fault) (weight h given_back_in) refl (λ n. refl) (λ n. refl) (λ n. refl) out,
     );
     uncompleting = waits_none priority BeginRead (ClosedWith fault) (λ e. cond (is_completing e) 1 0) refl (λ n. refl) (λ n. refl) (λ n. refl) out;
+    alone = waits_none priority BeginRead (ClosedWith fault) (λ e. cond (strays true e) 1 0) refl (λ n. refl) (λ n. refl) (λ n. refl) out;
   }
 
   pub read_takes : (priority : Mark → ℕ) (r : ReplyMark) → AnswersRead r → PollsOut priority BeginRead p q r → Takes r p q
@@ -139,18 +142,22 @@ module _ (p q : LockPass) (same : IsSamePass p q) where
     pub once : (m : Mark) (c : ℕ) → is_begun (entry c (BeginWrite m) r) ≡ false
     pub begun_later : (n c : ℕ) → is_begun (entry c (Poll n) r) ≡ false
     pub later : (n c : ℕ) → is_finished (entry c (Poll n) r) ≡ true
+    pub known : is_known r ≡ true
 
   pub done_is_written : IsWritten Done
-  done_is_written = record { takes = λ h. refl; returns = λ h m c. refl; returns_later = λ h n c. refl; untold = refl; once = λ m c. refl; begun_later = λ n c. refl; later = λ n c. refl }
+  done_is_written = record { takes = λ h. refl; returns = λ h m c. refl; returns_later = λ h n c. refl; untold = refl; once = λ m c. refl; begun_later = λ n c. refl; later = λ n c. refl; known = refl }
 
   pub dropped_is_written : (y : Mark) → IsWritten (Dropped y)
-  dropped_is_written y = record { takes = λ h. refl; returns = λ h m c. refl; returns_later = λ h n c. refl; untold = refl; once = λ m c. refl; begun_later = λ n c. refl; later = λ n c. refl }
+  dropped_is_written y = record { takes = λ h. refl; returns = λ h m c. refl; returns_later = λ h n c. refl; untold = refl; once = λ m c. refl; begun_later = λ n c. refl; later = λ n c. refl; known = refl }
 
   pub refused_is_written : (fault : ℕ) (y : Mark) → IsWritten (Refused fault y)
-  refused_is_written fault y = record { takes = λ h. refl; returns = λ h m c. refl; returns_later = λ h n c. refl; untold = refl; once = λ m c. refl; begun_later = λ n c. refl; later = λ n c. refl }
+  refused_is_written fault y = record { takes = λ h. refl; returns = λ h m c. refl; returns_later = λ h n c. refl; untold = refl; once = λ m c. refl; begun_later = λ n c. refl; later = λ n c. refl; known = refl }
 
   abbrev count_of : Bool → ℕ
   count_of b = cond b 1 0
+
+  abbrev count_not : Bool → ℕ
+  count_not b = cond (not b) 1 0
 
   only_first : (n : ℕ) → n ≡ n + 0
   only_first n = omega arith
@@ -167,6 +174,7 @@ module _ (p q : LockPass) (same : IsSamePass p q) where
     );
     uncompleting = waits_none priority (BeginWrite m) r (λ e. cond (is_completing e) 1 0) refl (λ n. refl) (λ n. refl) (λ n. refl) out;
     untold = waits_none priority (BeginWrite m) r (λ e. cond (is_closed e) 1 0) (ap count_of is.untold) (λ n. refl) (λ n. refl) (λ n. ap count_of is.untold) out;
+    alone = waits_none priority (BeginWrite m) r (λ e. cond (strays false e) 1 0) (ap count_not is.known) (λ n. refl) (λ n. refl) (λ n. ap count_not is.known) out;
   }
 
   -- the answers of a worker's calls

@@ -71,6 +71,7 @@ module _ (what : Stage) (stage : ℕ) (line : Joint) (fault : ℕ) (e : JointEnd
       quiet = r.quiet_to;
       uncompleting = r.uncompleting_to;
       untold = r.untold_to;
+      alone = r.writes_alone;
     }
 
 -- 2. All of them
@@ -96,7 +97,7 @@ all_pass workers index fault (what ∷ after ∷ stages) stage (line ∷ lines) 
     record { passes = (passes_on what stage line fault e arriving shows a f r.0, rest.passes); met = (record { meets = m.0; shows = shows }, rest.met) }
 
 feeds_all : (fed : List Row) (p : LockPass) (lost : List ℕ) → Feeds fed p lost → WritesAll (weight_of_rows fed) p lost
-feeds_all fed p lost f = record { writes = f.writes; loses = f.loses; settled = f.settled; quiet = f.quiet; uncompleting = f.uncompleting; untold = f.untold }
+feeds_all fed p lost f = record { writes = f.writes; loses = f.loses; settled = f.settled; quiet = f.quiet; uncompleting = f.uncompleting; untold = f.untold; alone = f.alone }
 
 feeds_first : (fed : List Row) (es : List JointEnd) → FeedsFirst fed es → WritesFirst (weight_of_rows fed) es
 feeds_first fed [] f = absurd f

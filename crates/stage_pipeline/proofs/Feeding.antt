@@ -16,4 +16,5 @@ feeds_more fed row p q lost lost' s f = record {
   quiet = λ h. (let a = s.quiet h in let b = f.quiet h in (a.0 ∙ b.0, a.1 ∙ b.1));
   uncompleting = s.uncompleting ∙ f.uncompleting;
   untold = s.untold ∙ f.untold;
+  alone = s.alone ∙ f.alone;
 }

@@ -80,6 +80,8 @@ module _ (workers index : ℕ) (t : TableId) (line : Joint) (w0 w r p : LockPass
     joined = j;
     all = whole_pass;
     closed = closed;
+    readers = reads.count ∙ start.sides.read.count;
+    below = subst (λ (m : ℕ). HoldsBelow m r.held) callers_read reads.below;
   }
 
 -- 2. All joints from one on
@@ -116,6 +118,8 @@ last_works does r before over lost none works =
       quiet_to = w.quiet_to;
       uncompleting_to = w.uncompleting_to;
       untold_to = w.untold_to;
+      reads_alone = w.reads_alone;
+      writes_alone = w.writes_alone;
     }
 
 work_more : (workers index fault : ℕ) (what : Stage) (stages : List Stage) (lines : List Joint) (stage : ℕ) (e : JointEnd) (list : List JointEnd) (before : Option LockPass) (lost : List ℕ)

@@ -1,7 +1,8 @@
 -- From own entries of two passes to all entries, and back.
-use Rattle.std.specs.Prelude.{ℕ, List, [], ◌∷◌, ◌++◌, Bool, true, false, cond, Some, count_by, slice_index_or, min}
+use Rattle.std.specs.Prelude.{ℕ, List, [], ◌∷◌, ◌++◌, Bool, true, false, cond, not, Some, All, count_by, slice_index_or, min}
 use Rattle.std.specs.List.{sum_by}
-use Rattle.std.proofs.Common.{◌≡◌, ap, sym, ◌∙◌, subst, ◌+◌, ◌<◌, ◌≤◌, arith, append_assoc, ◌⊎◌, inl, inr}
+use Rattle.std.proofs.Common.{◌≡◌, true≢false, refl, ap, sym, ◌∙◌, subst, ◌+◌, ◌<◌, ◌≤◌, arith, append_assoc, ◌⊎◌, inl, inr}
+use Rattle.std.proofs.lemmas.List.Elements.{All-cons, All-nil}
 use Rattle.std.proofs.lemmas.List.Sums.{sum_by-cons, sum_by-append, sum_by_push}
 use Rattle.ho_base.specs.Marks.{Mark}
 use Rattle.ho_model.specs.declared.marks.EntryMark.{EntryMark}
@@ -16,10 +17,12 @@ use Rattle.ho_model.specs.Histories.{IsLegal}
 use Rattle.ho_model.proofs.Folds.{legal_begins}
 use Rattle.passes.specs.Numbers.{HasAll, AreApart, held_both}
 use Rattle.passes.specs.Seen.{AreBelow, own_of}
+use Rattle.passes.proofs.Flags.{both_up, by_flag}
 use Rattle.passes.proofs.Owned.{own_of-append, own_of-whole, own_of-sees, entry_own, own_of-own, sum_by-own_both}
 use Rattle.channel_flow.specs.Items.{written_in, taken_in, dropped_in, refused_in, given_back_in, weight, one}
 use Rattle.channel_flow.specs.Ends.{is_begun, is_finished, is_closed, is_closed_with, is_completing, first_fault, IsDrained}
 use Rattle.channel_flow.proofs.Laws.{what_goes_in_comes_out, none_is_refused_before_the_end, none_is_dropped_without_mode, only_full_channels_drop, one_fault_is_told, first_fault-at}
+use Rattle.stage_pipeline.specs.Callers.{is_call_of, strays}
 use Rattle.stage_pipeline.specs.Joints.{tally, tally_of, IsJoined, AreQuiet, JointsAddUp, FaultGoesOn, JointsDropNothing, FewAreDropped}
 
 -- own entries weigh at most as all
@@ -42,6 +45,32 @@ tally-append f held ys zs = ap (sum_by f) (own_of-append held ys zs) ∙ sum_by-
 two_parts : (f : EntryMark → ℕ) (n : ℕ) (held held' : List Bool) (es : List EntryMark) → HasAll n (held_both held held') → AreApart held held' → AreBelow n es → sum_by f es ≡ tally f held es + tally f held' es
 two_parts f n held held' es all apart below = sym (ap (sum_by f) (own_of-whole n (held_both held held') es all below)) ∙ sum_by-own_both f held held' es apart
 
+-- each call is one of its caller's side
+abbrev pub IsSided : List Bool → EntryMark → Type 0
+IsSided readers e = is_call_of (slice_index_or readers e.caller false) e ≡ true
+
+weighs_none : (f : EntryMark → ℕ) (b : Bool) (e : EntryMark) (xs : List EntryMark) → sum_by f (cond b (e ∷ xs) xs) ≡ 0 → (sum_by f xs ≡ 0) × (b ≡ true → f e ≡ 0)
+weighs_none f true e xs none = let s = sum_by-cons f e xs in (omega (arith, s, none), λ yes. omega (arith, s, none))
+weighs_none f false e xs none = (none, λ yes. absurd (true≢false (sym yes)))
+
+abbrev count_not : Bool → ℕ
+count_not b = cond (not b) 1 0
+
+no_stray : (b : Bool) → count_not b ≡ 0 → b ≡ true
+no_stray true none = refl
+no_stray false none = absurd (omega (arith, none))
+
+sided : (writers readers : List Bool) (n : ℕ) (es : List EntryMark) → HasAll n (held_both writers readers) → AreBelow n es → tally_of (strays false) writers es ≡ 0 → tally_of (strays true) readers es ≡ 0 → All (IsSided readers) es
+sided writers readers n [] whole below mine theirs = All-nil (IsSided readers)
+sided writers readers n (e ∷ es) whole below mine theirs =
+    let ws = weighs_none (λ x. cond (strays false x) 1 0) (slice_index_or writers e.caller false) e (own_of writers es) mine in
+    let rs = weighs_none (λ x. cond (strays true x) 1 0) (slice_index_or readers e.caller false) e (own_of readers es) theirs in
+    let here : IsSided readers e =
+    by_flag (slice_index_or readers e.caller false)
+    (λ yes. subst (λ (b : Bool). is_call_of b e ≡ true) (sym yes) (no_stray (is_call_of true e) (rs.1 yes)))
+    (λ no. subst (λ (b : Bool). is_call_of b e ≡ true) (sym no) (no_stray (is_call_of false e) (ws.1 (both_up writers readers e.caller (whole e.caller below.0) no)))) in
+    All-cons (IsSided readers) e es here (sided writers readers n es whole below.1 ws.0 rs.0)
+
 module _ (priority : Mark → ℕ) (o : Object) (n : ℕ) (writers : List Bool) (wrote : List EntryMark) (readers : List Bool) (read all : List EntryMark) (caller fault : ℕ) (set : Bool) (j : IsJoined priority o n writers wrote readers read all caller fault set) where
   abbrev last_entry : EntryMark
   last_entry = entry caller (CompleteWith fault) (Flag set)
@@ -52,15 +81,30 @@ module _ (priority : Mark → ℕ) (o : Object) (n : ℕ) (writers : List Bool) 
   shape : all ≡ j.front ++ last_entry ∷ rest
   shape = j.first.1 ∙ (ap (λ (l : List EntryMark). l ++ rest) j.completes.1 ∙ append_assoc j.front (last_entry ∷ []) rest)
 
-  -- the weight of all entries
-  pub total : (f : EntryMark → ℕ) → sum_by f all ≡ tally f writers wrote + f last_entry + tally f readers read
-  total f =
-      let parts = two_parts f n writers readers all j.whole j.apart j.lawful.1 in
+  -- the weight of all entries, by sides
+  all_mine : (f : EntryMark → ℕ) → tally f writers all ≡ tally f writers wrote + f last_entry
+  all_mine f =
       let mine = ap (sum_by f) (own_of-sees writers j.completed all j.first) in
       let one_more = ap (sum_by f) (own_of-own writers wrote j.completed (last_entry ∷ []) (entry_own writers wrote j.completed j.front last_entry j.own j.completes)) in
       let pushed = sum_by_push f (own_of writers wrote) last_entry in
-      let theirs = ap (sum_by f) (own_of-sees readers read all j.second) in
       omega arith
+
+  all_theirs : (f : EntryMark → ℕ) → tally f readers all ≡ tally f readers read
+  all_theirs f = ap (sum_by f) (own_of-sees readers read all j.second)
+
+  pub total : (f : EntryMark → ℕ) → sum_by f all ≡ tally f writers wrote + f last_entry + tally f readers read
+  total f =
+      let parts = two_parts f n writers readers all j.whole j.apart j.lawful.1 in
+      let mine = all_mine f in
+      let theirs = all_theirs f in
+      omega arith
+
+  -- where writers and readers make no other calls, there are no others
+  pub all_sided : tally_of (strays false) writers wrote ≡ 0 → tally_of (strays true) readers read ≡ 0 → All (IsSided readers) all
+  all_sided mine theirs =
+      let w = all_mine (λ e. cond (strays false e) 1 0) in
+      let r = all_theirs (λ e. cond (strays true e) 1 0) in
+      sided writers readers n all j.whole j.lawful.1 (omega (arith, w, mine)) (omega (arith, r, theirs))
 
   front_mine : (f : EntryMark → ℕ) → tally f writers j.front ≡ tally f writers wrote
   front_mine f = ap (sum_by f) (own_of-sees writers wrote j.front j.completes.0)

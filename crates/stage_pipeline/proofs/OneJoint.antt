@@ -1,5 +1,5 @@
 -- What a joint that was met tells of its whole pass.
-use Rattle.std.specs.Prelude.{ℕ, ◌==◌, List, [], ◌∷◌, Bool, true, false, cond, min, length, count_by, Option, Some}
+use Rattle.std.specs.Prelude.{ℕ, ◌==◌, List, [], ◌∷◌, Bool, true, false, cond, min, All, length, count_by, Option, Some}
 use Rattle.std.specs.List.{sum_by, flat_map}
 use Rattle.std.proofs.Common.{◌≡◌, refl, ap, sym, ◌∙◌, subst, ◌+◌, ◌<◌, ◌≤◌, arith}
 use Rattle.std.proofs.lemmas.List.Sums.{sum_by-cons, sum_by-le-sum_by}
@@ -26,11 +26,12 @@ use Rattle.record_lang.specs.declared.outcomes.Outcome.{Outcome}
 use Rattle.record_lang.specs.declared.pipelines.Joint.{Joint}
 use Rattle.record_lang.specs.declared.pipelines.Joint.TheVariants as joint
 use Rattle.joint_reports.proofs.Weights.{mapped_weight}
+use Rattle.stage_pipeline.specs.Callers.{strays}
 use Rattle.stage_pipeline.specs.Joints.{IsJoined, AreQuiet}
 use Rattle.stage_pipeline.specs.Works.{weighs, counts, lost_by, WorksOff}
 use Rattle.stage_pipeline.specs.Runs.{channel_of, dropped_numbers}
 use Rattle.stage_pipeline.specs.Meetings.{JointEnd, MeetsJoint}
-use Rattle.stage_pipeline.proofs.Joining.{total, fault_is_first, joints_add_up, fault_goes_on, joints_drop_nothing, few_are_dropped}
+use Rattle.stage_pipeline.proofs.Joining.{IsSided, all_sided, total, fault_is_first, joints_add_up, fault_goes_on, joints_drop_nothing, few_are_dropped}
 
 -- by this pass what arrives was written, with these numbers dropped, and nothing was taken, completed or told of the end
 pub record WritesAll (arriving : (Mark → ℕ) → ℕ) (p : LockPass) (lost : List ℕ) : Type 0 where
@@ -40,6 +41,7 @@ pub record WritesAll (arriving : (Mark → ℕ) → ℕ) (p : LockPass) (lost : 
   pub quiet : (h : Mark → ℕ) → (weighs (weight h taken_in) p ≡ 0) × (weighs (weight h given_back_in) p ≡ 0)
   pub uncompleting : counts is_completing p ≡ 0
   pub untold : counts is_closed p ≡ 0
+  pub alone : counts (strays false) p ≡ 0
 
 -- no items are dropped, or as many are taken as the joint has room for, or all
 abbrev pub HasRoom : Joint → List Mark → List Mark → List Mark → Type 0
@@ -50,7 +52,7 @@ HasRoom (joint.DropWrite capacity) written taken lost = min (length written) cap
 HasRoom joint.Unbounded written taken lost = lost ≡ []
 
 -- What the whole pass of a joint has seen is what its writers wrote and dropped and its readers took. What was written was taken
--- or dropped, and its readers, and nobody else, were told the fault of its one completion.
+-- or dropped, and its readers, and nobody else, were told the fault of its one completion. Each call is one of its caller's side.
 pub record ShowsJoint (line : Joint) (fault : ℕ) (e : JointEnd) : Type 0 where
   pub written : (h : Mark → ℕ) → sum_by h (flat_map written_in e.whole.seen) ≡ weighs (weight h written_in) e.before
   pub taken : (h : Mark → ℕ) → sum_by h (flat_map taken_in e.whole.seen) ≡ weighs (weight h taken_in) e.read
@@ -60,6 +62,8 @@ pub record ShowsJoint (line : Joint) (fault : ℕ) (e : JointEnd) : Type 0 where
   pub told : (f : ℕ) → 0 < counts (is_closed_with f) e.read → f ≡ fault
   pub completed : (count_by is_completing e.whole.seen ≡ 1) × (first_fault e.whole.seen ≡ Some fault)
   pub closed : count_by is_closed e.whole.seen ≡ counts is_closed e.read
+  pub sides : All (IsSided e.read.held) e.whole.seen
+  pub settled : count_by is_begun e.whole.seen ≡ count_by is_finished e.whole.seen
 
 -- 1. Plain lists
 
@@ -214,6 +218,14 @@ module _ (line : Joint) (callers workers fault : ℕ) (e : JointEnd) (buildable 
         let w = a.untold in
         omega arith
 
+    all_settled : count_by is_begun e.whole.seen ≡ count_by is_finished e.whole.seen
+    all_settled =
+        let b = all_weigh fault m.completes.set e (channel_of line) joined (λ x. cond (is_begun x) 1 0) in
+        let f = all_weigh fault m.completes.set e (channel_of line) joined (λ x. cond (is_finished x) 1 0) in
+        let w = a.settled in
+        let s = r.settled in
+        omega arith
+
     pub joint_shows : ShowsJoint line fault e
     joint_shows = record {
       written = written_is fault m.completes.set e (channel_of line) joined quiet;
@@ -224,4 +236,6 @@ module _ (line : Joint) (callers workers fault : ℕ) (e : JointEnd) (buildable 
       told = told_fault fault m.completes.set e (channel_of line) joined quiet;
       completed = completed_once fault m.completes.set e (channel_of line) joined quiet;
       closed = readers_told;
+      settled = all_settled;
+      sides = all_sided number_of (channel_of line) e.whole.callers e.before.held e.before.seen e.read.held e.read.seen e.whole.seen e.before.caller fault m.completes.set joined a.alone r.reads_alone;
     }

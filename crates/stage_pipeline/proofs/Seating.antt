@@ -171,6 +171,8 @@ module _ (does : Mark → Outcome) (r r' r'' : LockPass) (w w' w'' : Option Lock
         quiet_to = λ h. (let a = f.quiet_to h in let b = g.quiet_to h in (both_none _ _ _ (sum_w _) a.0 b.0, both_none _ _ _ (sum_w _) a.1 b.1));
         uncompleting_to = both_none _ _ _ (counts_both_to w w' w'' k _) f.uncompleting_to g.uncompleting_to;
         untold_to = both_none _ _ _ (counts_both_to w w' w'' k _) f.untold_to g.untold_to;
+        reads_alone = both_none _ _ _ (counts_both r r' r'' j _) f.reads_alone g.reads_alone;
+        writes_alone = both_none _ _ _ (counts_both_to w w' w'' k _) f.writes_alone g.writes_alone;
       }
 
 -- 4. One worker's seat, and those of the others

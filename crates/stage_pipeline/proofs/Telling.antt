@@ -9,6 +9,7 @@ use Rattle.std.proofs.lemmas.List.Sorted.{IsPermutation-map, IsPermutation-trans
 use Rattle.std.proofs.lemmas.List.Sums.{sum_by-cons, sum_by-append}
 use Rattle.std.proofs.lemmas.Option.{slice_get-map}
 use Rattle.ho_base.specs.Marks.{Mark, number_of}
+use Rattle.passes.specs.Numbers.{HoldsBelow}
 use Rattle.turn_lock.specs.Passes.{LockPass}
 use Rattle.channel_core.specs.Marks.{fault_number}
 use Rattle.record_lang.specs.Guards.{fed_rows, stop_code, meets}
@@ -72,6 +73,13 @@ joint_pass workers index line arrived fault e m t = record {
   drops = drops_lawfully line arrived (passage e) m.shows.room t;
   completed = m.shows.completed;
   readers = m.shows.closed ∙ m.meets.closed;
+  sides = record {
+    readers = e.read.held;
+    many = m.meets.readers;
+    below = subst (λ (n : ℕ). HoldsBelow n e.read.held) (sym m.meets.callers_are) m.meets.below;
+    calls = m.shows.sides;
+  };
+  settled = m.shows.settled;
 }
 
 drops_same : (es : List JointEnd) → drops_in (map passage es) ≡ drops_of (wholes es)

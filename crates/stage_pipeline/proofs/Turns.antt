@@ -85,6 +85,7 @@ kept o w over over' lost is none all = record {
   quiet = λ h. (refl, refl);
   uncompleting = refl;
   untold = refl;
+  alone = refl;
 }
 
 pub kept_last : (o : Outcome) (w : Option LockPass) (over over' : List Outcome) (lost : List ℕ) → w ≡ None → over' ≡ over ++ o ∷ [] → PassesOn o w w over over' lost lost
@@ -110,6 +111,7 @@ sent_on row v v' over lost lost' s = record {
   quiet = s.quiet;
   uncompleting = s.uncompleting;
   untold = s.untold;
+  alone = s.alone;
 }
 
 pub sent_as : (o : Outcome) (row : Row) (w : Option LockPass) (v v' : LockPass) (over : List Outcome) (lost lost' : List ℕ) → o ≡ to.Result row → w ≡ Some v → Sends (mark_of row) v v' lost lost' → PassesOn o w (Some v') over over lost lost'
@@ -152,6 +154,8 @@ works_on does r r' w w' over over' lost lost' m last t s f = record {
   quiet_to = λ h. (let a = s.quiet h in let c = f.quiet_to h in (a.0 ∙ c.0, a.1 ∙ c.1));
   uncompleting_to = s.uncompleting ∙ f.uncompleting_to;
   untold_to = s.untold ∙ f.untold_to;
+  reads_alone = t.alone ∙ f.reads_alone;
+  writes_alone = s.alone ∙ f.writes_alone;
 }
 
 pub item_turn : (does : Mark → Outcome) (r r' : LockPass) (w w' : Option LockPass) (over over' : List Outcome) (lost lost' : List ℕ) (row : Row) (o : Outcome)
@@ -189,6 +193,8 @@ end_turn does r r' w over lost fault t f = record {
   quiet_to = f.quiet_to;
   uncompleting_to = f.uncompleting_to;
   untold_to = f.untold_to;
+  reads_alone = t.alone ∙ f.reads_alone;
+  writes_alone = f.writes_alone;
 }
 
 pub item_untold : (m : Mark) (r r' : LockPass) → Takes (Item m) r r' → counts is_closed r' ≡ counts is_closed r
@@ -228,4 +234,6 @@ works_start does r w a b = record {
   quiet_to = λ h. (new_weighs_to _ w b, new_weighs_to _ w b);
   uncompleting_to = new_counts_to _ w b;
   untold_to = new_counts_to _ w b;
+  reads_alone = new_counts _ r a;
+  writes_alone = new_counts_to _ w b;
 }

@@ -1,5 +1,5 @@
 -- What a crew and the feeder are started with, and what they leave.
-use Rattle.std.specs.Prelude.{◌≡◌, ℕ, ◌+◌, ◌-◌, ◌<◌, ◌≤◌, List, [], ◌∷◌, ◌++◌, Bool, true, nat_eq, Option, None, Some, slice_get, sum_by}
+use Rattle.std.specs.Prelude.{◌≡◌, ℕ, ◌+◌, ◌-◌, ◌<◌, ◌≤◌, List, [], ◌∷◌, ◌++◌, Bool, false, true, nat_eq, Option, None, Some, slice_get, sum_by}
 use Rattle.atomic_table.specs.Seated.{TableId}
 use Rattle.ho_base.specs.Marks.{Mark}
 use Rattle.ho_model.specs.declared.marks.EntryMark.{EntryMark}
@@ -17,6 +17,7 @@ use Rattle.record_lang.specs.Records.{Row}
 use Rattle.record_lang.specs.declared.outcomes.Outcome.{Outcome}
 use Rattle.record_lang.specs.declared.pipelines.Stage.{Stage}
 use Rattle.joint_reports.specs.Through.{says, weight_of_rows}
+use Rattle.stage_pipeline.specs.Callers.{strays}
 use Rattle.stage_pipeline.specs.Works.{KeepsPlace, WorksOff, counts, is_last, lost_by, weighs}
 use Rattle.stage_pipeline.specs.declared.kits.Kit.{Kit}
 use Rattle.stage_pipeline.specs.declared.kits.CrewEnd.{CrewEnd}
@@ -110,6 +111,7 @@ pub record Feeds (fed : List Row) (p : LockPass) (lost : List ℕ) : Type 0 wher
   pub quiet : (h : Mark → ℕ) → (weighs (weight h taken_in) p ≡ 0) × (weighs (weight h given_back_in) p ≡ 0)
   pub uncompleting : counts is_completing p ≡ 0
   pub untold : counts is_closed p ≡ 0
+  pub alone : counts (strays false) p ≡ 0
 
 -- the feeder fed these records, and then completed the first joint with this fault
 pub record FeederWorks (fed : List Row) (fault : ℕ) (e : FeederEnd) : Type 0 where

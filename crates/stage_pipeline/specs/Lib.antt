@@ -1,4 +1,5 @@
 pub mod Made
+pub mod Callers
 pub mod Joints
 pub mod Works
 pub mod Crews

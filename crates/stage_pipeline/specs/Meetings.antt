@@ -2,6 +2,7 @@
 use Rattle.std.specs.Prelude.{◌≡◌, ℕ, ◌+◌, ◌<◌, List, [], ◌∷◌, None, Some, map, sum_by}
 use Rattle.ho_base.specs.Marks.{number_of}
 use Rattle.passes.specs.Calls.{Joins}
+use Rattle.passes.specs.Numbers.{HoldsBelow, held_count}
 use Rattle.passes.specs.Views.{IsWhole}
 use Rattle.turn_lock.specs.Passes.{LockPass}
 use Rattle.channel_core.specs.Marks.{fault_number}
@@ -29,7 +30,7 @@ pub record JointEnd : Type 0 where
   pub over : List Outcome
   pub whole : LockPass
 
--- each of so many workers that read it was told of its end
+-- each of so many workers that read it was told of its end; with their crew they are its readers
 pub record MeetsJoint (line : Joint) (callers workers fault : ℕ) (e : JointEnd) : Type 0 where
   pub object : e.whole.object ≡ channel_of line
   pub callers_are : e.whole.callers ≡ callers
@@ -37,6 +38,8 @@ pub record MeetsJoint (line : Joint) (callers workers fault : ℕ) (e : JointEnd
   pub joined : Joins number_of e.after e.read e.whole
   pub all : IsWhole e.whole
   pub closed : counts is_closed e.read ≡ workers
+  pub readers : held_count e.read.held ≡ workers + 1
+  pub below : HoldsBelow callers e.read.held
 
 -- each joint is completed with the fault that the readers of the joint before it were told
 abbrev pub MeetJoints : ℕ → ℕ → List Joint → ℕ → List JointEnd → Type 0

@@ -10,7 +10,7 @@ use Rattle.passes.specs.Views.{IsWhole}
 use Rattle.turn_lock.specs.Passes.{LockPass}
 use Rattle.channel_core.specs.Marks.{fault_number}
 use Rattle.channel_flow.specs.Items.{written_in, taken_in, dropped_in}
-use Rattle.channel_flow.specs.Ends.{first_fault, is_closed, is_completing}
+use Rattle.channel_flow.specs.Ends.{first_fault, is_begun, is_closed, is_completing, is_finished}
 use Rattle.record_lang.specs.Guards.{fed_rows, stop_code}
 use Rattle.record_lang.specs.Marks.{mark_of}
 use Rattle.record_lang.specs.Pipelines.{Meaning}
@@ -19,6 +19,7 @@ use Rattle.record_lang.specs.Texts.{report_text, run_text}
 use Rattle.record_lang.specs.declared.pipelines.Joint.{Joint}
 use Rattle.record_lang.specs.declared.pipelines.Joint.TheVariants as joint
 use Rattle.joint_reports.specs.Reports.{dropped_of, has_drop_joint, left_of, reached, told_of}
+use Rattle.stage_pipeline.specs.Callers.{IsReadBy}
 
 -- the channel that a joint is
 abbrev pub channel_of : Joint → Object
@@ -50,7 +51,8 @@ DropsLawfully joint.Unbounded arrived dropped = dropped ≡ []
 
 -- The whole pass of a joint that these records reached: what was written to it is these records, what it dropped is those of
 -- the dropped numbers, and what was taken is the others, each once. It was completed once, with this fault. Its end was
--- told to so many reads, one of each worker.
+-- told to so many reads. The workers and their crew are its readers, and no other calls were made; each wait that a call began was
+-- ended by a poll.
 pub record IsJointPass (line : Joint) (callers workers : ℕ) (arrived : List Row) (fault : ℕ) (p : LockPass) : Type 0 where
   pub whole : IsWhole p
   pub object : p.object ≡ channel_of line
@@ -62,6 +64,8 @@ pub record IsJointPass (line : Joint) (callers workers : ℕ) (arrived : List Ro
   pub drops : DropsLawfully line arrived (dropped_numbers p)
   pub completed : (count_by is_completing p.seen ≡ 1) × (first_fault p.seen ≡ Some fault)
   pub readers : count_by is_closed p.seen ≡ workers
+  pub sides : IsReadBy (workers + 1) p
+  pub settled : count_by is_begun p.seen ≡ count_by is_finished p.seen
 
 -- there is a whole pass for each joint, in order, and what each dropped tells which records reach the next
 pub record AreJointPasses (pipeline : Meaning) (rows : List Row) (workers : ℕ) (passes : List LockPass) : Type 0 where

@@ -8,6 +8,7 @@ use Rattle.record_lang.specs.declared.outcomes.Outcome.{Outcome}
 use Rattle.channel_flow.specs.Items.{written_in, taken_in, dropped_in, refused_in, given_back_in, gives, weight}
 use Rattle.channel_flow.specs.Ends.{is_begun, is_finished, is_closed_reply_with, is_closed_with, is_closed_reply, is_closed, is_completing}
 use Rattle.joint_reports.specs.Through.{goes, ends}
+use Rattle.stage_pipeline.specs.Callers.{strays}
 use Rattle.stage_pipeline.specs.Joints.{tally, tally_of}
 use Rattle.stage_pipeline.specs.declared.workers.Turn.{Turn}
 use Rattle.stage_pipeline.specs.declared.workers.Turn.TheVariants.{More, Ended, GaveUp}
@@ -38,7 +39,7 @@ abbrev pub lost_by : (ℕ → ℕ) → EntryMark → ℕ
 lost_by g = weight (λ m. g (number_of m)) dropped_in
 
 -- Of what was read all was worked off: it was written on, or its outcome is kept, or its number where it was dropped. Each wait
--- was finished. The reader wrote and completed nothing, and the writer read and completed nothing.
+-- was finished. The reader wrote and completed nothing, the writer read and completed nothing, and neither made any other call.
 pub record WorksOff (does : Mark → Outcome) (r : LockPass) (w : Option LockPass) (over : List Outcome) (lost : List ℕ) : Type 0 where
   pub goes_on : (h : Mark → ℕ) → weighs_to (weight h written_in) w ≡ weighs (weight (λ m. goes (is_last w) h (does m)) taken_in) r
   pub ends_here : (k : Outcome → ℕ) → sum_by k over ≡ weighs (weight (λ m. ends (is_last w) k (does m)) taken_in) r
@@ -50,6 +51,8 @@ pub record WorksOff (does : Mark → Outcome) (r : LockPass) (w : Option LockPas
   pub quiet_to : (h : Mark → ℕ) → (weighs_to (weight h taken_in) w ≡ 0) × (weighs_to (weight h given_back_in) w ≡ 0)
   pub uncompleting_to : counts_to is_completing w ≡ 0
   pub untold_to : counts_to is_closed w ≡ 0
+  pub reads_alone : counts (strays true) r ≡ 0
+  pub writes_alone : counts_to (strays false) w ≡ 0
 
 -- a pass is of the same object, and holds the same numbers
 pub record KeepsPlace (p q : LockPass) : Type 0 where
@@ -74,6 +77,7 @@ pub record Sends (m : Mark) (p q : LockPass) (lost lost' : List ℕ) : Type 0 wh
   pub quiet : (h : Mark → ℕ) → (weighs (weight h taken_in) q ≡ weighs (weight h taken_in) p) × (weighs (weight h given_back_in) q ≡ weighs (weight h given_back_in) p)
   pub uncompleting : counts is_completing q ≡ counts is_completing p
   pub untold : counts is_closed q ≡ counts is_closed p
+  pub alone : counts (strays false) q ≡ counts (strays false) p
 
 -- what became of one record: it ended here, or it was written on
 pub record PassesOn (o : Outcome) (w w' : Option LockPass) (over over' : List Outcome) (lost lost' : List ℕ) : Type 0 where
@@ -84,6 +88,7 @@ pub record PassesOn (o : Outcome) (w w' : Option LockPass) (over over' : List Ou
   pub quiet : (h : Mark → ℕ) → (weighs_to (weight h taken_in) w' ≡ weighs_to (weight h taken_in) w) × (weighs_to (weight h given_back_in) w' ≡ weighs_to (weight h given_back_in) w)
   pub uncompleting : counts_to is_completing w' ≡ counts_to is_completing w
   pub untold : counts_to is_closed w' ≡ counts_to is_closed w
+  pub alone : counts_to (strays false) w' ≡ counts_to (strays false) w
 
 -- a read was answered so
 pub record Takes (reply : ReplyMark) (p q : LockPass) : Type 0 where
@@ -93,6 +98,7 @@ pub record Takes (reply : ReplyMark) (p q : LockPass) : Type 0 where
   pub settled : counts is_begun q + counts is_finished p ≡ counts is_begun p + counts is_finished q
   pub quiet : (h : Mark → ℕ) → (weighs (weight h written_in) q ≡ weighs (weight h written_in) p) × (weighs (weight h dropped_in) q ≡ weighs (weight h dropped_in) p) × (weighs (weight h refused_in) q ≡ weighs (weight h refused_in) p) × (weighs (weight h given_back_in) q ≡ weighs (weight h given_back_in) p)
   pub uncompleting : counts is_completing q ≡ counts is_completing p
+  pub alone : counts (strays true) q ≡ counts (strays true) p
 
 -- a fact about how a turn ended
 abbrev pub IfMore : Turn → Type 0 → Type 0

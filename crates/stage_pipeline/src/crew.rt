@@ -6,11 +6,11 @@ ghost use Rattle.stage_pipeline.specs.Seats.{IsOfTo};
 
 use crate::kits::{CrewEnd, Kit};
 use crate::seats::{Seat, SeatEnd, work_all};
+use crate::shared::SharedJoint;
 use crate::sides::{complete, joint_of};
-use channels::Channel;
 use ho_base::Fault;
 use ho_io::Gate;
-use record_lang::{Pipeline, Record};
+use record_lang::Pipeline;
 use std::alloc::Global;
 use std::sync::Wait;
 use std::thread::Threads;
@@ -19,7 +19,7 @@ use turn_lock::Pass;
 // Completes the joint of a pass that is there.
 fn complete_next<R: Wait>(
     rt: &R,
-    joints: &[Channel<Record>],
+    joints: &[SharedJoint],
     index: u32,
     pass: Option<Pass>,
     fault: Option<Fault>,
@@ -43,7 +43,7 @@ pub(crate) fn crew<G: Gate, R: Wait + Threads + Sync>(
     rt: &R,
     alloc: Global,
     pipeline: &Pipeline,
-    joints: &[Channel<Record>],
+    joints: &[SharedJoint],
     gate: &G,
     kit: Kit,
 ) -> CrewEnd

@@ -19,19 +19,24 @@
 //! laws of items in channels, and on `joint_reports` for which records reach a joint. It promises upward that
 //! the text is the one-thread text where no joint may drop, and else that of the report which the joints
 //! tell; that the whole pass of each joint shows just the records that reach it, each written once, and
-//! dropped or taken once; and which records a seed makes.
+//! dropped or taken once, and no other calls but polls of waits that were begun, each ended, as many ends as
+//! workers and one completion; and which records a seed makes.
 //!
 //! No contract says that workers run side by side, that they pass the gate before each call on a joint
-//! and under which number, that they make no calls beside those that the text needs, or that a run ends:
-//! tests show the first two for some runs. That the premises of the law of one joint can be met is shown by
-//! `run_pipeline`, which proves them of each joint that it hands back. Want of memory is the one free
-//! answer: a `run_pipeline`, `made_text` or `made_records` that
-//! always gave it would be proved, so tests call each with ample memory.
+//! and under which number, how often who waits polls, or that a run ends: tests show the first two for some
+//! runs. A run is meant to end also where the system starts fewer threads than are asked for: a crew without
+//! a thread comes last, so then nothing is fed, and the answer is want of memory. To see it, run a program
+//! beside a library, loaded before the C library, whose `pthread_create` refuses one call or all from one on.
+//!
+//! That the premises of the law of one joint can be met is shown by `run_pipeline`, which proves them of
+//! each joint that it hands back. Want of memory is the one free answer: a `run_pipeline`, `made_text` or
+//! `made_records` that always gave it would be proved, so tests call each with ample memory.
 #![tactic(auto)]
 
 mod crew;
 mod feeder;
 mod flow;
+mod gauge;
 mod joints;
 mod kits;
 mod made;
@@ -40,6 +45,7 @@ mod meetings;
 mod reports;
 mod runs;
 mod seats;
+mod shared;
 mod sides;
 mod starts;
 mod summaries;

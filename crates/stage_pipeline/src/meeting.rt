@@ -6,9 +6,9 @@ ghost use Rattle.stage_pipeline.specs.declared.kits.CrewEnd.{CrewEnd};
 use crate::flow::Flow;
 use crate::kits::CrewEnd;
 use crate::runs::Done;
-use channels::Channel;
+use crate::shared::SharedJoint;
 use ho_base::NoMemory;
-use record_lang::{Dropped, Record};
+use record_lang::{Dropped, Outcome};
 use std::alloc::Global;
 use turn_lock::Pass;
 
@@ -34,10 +34,23 @@ fn add_dropped(dropped: &mut Vec<Dropped>, joint: u32, numbers: &[u64]) -> Resul
     Ok(())
 }
 
+// Adds these outcomes. The first list is taken as it is.
+fn add_outcomes(outcomes: &mut Vec<Outcome>, more: Vec<Outcome>) -> Result<(), NoMemory>
+    ensures { OnOk result (outcomes.new.items ≡ outcomes.old.items ++ more.items) }
+{
+    if outcomes.is_empty() {
+        *outcomes = more;
+        return Ok(());
+    }
+    let mut more = more;
+    outcomes.append(&mut more)?;
+    Ok(())
+}
+
 // Joins the passes of one joint, counted from 1, and takes in what its readers left. Behind it stands the
 // writers' side of the next.
 fn gather_joint(
-    joints: &[Channel<Record>],
+    joints: &[SharedJoint],
     joint: u32,
     side: Side,
     end: CrewEnd,
@@ -54,27 +67,23 @@ fn gather_joint(
     let CrewEnd {
         read,
         write,
-        mut over,
+        over,
         lost: next,
         whole,
     } = end;
     if !whole {
         return Err(NoMemory);
     }
-    joints[joint as usize - 1].join(&mut joined, read);
+    joints[joint as usize - 1].channel().join(&mut joined, read);
     done.joints.push(joined)?;
-    done.outcomes.append(&mut over)?;
+    add_outcomes(&mut done.outcomes, over)?;
     add_dropped(&mut done.dropped, joint, &lost)?;
     Ok(Side { write, lost: next })
 }
 
 /// Joins the writers' pass and the readers' pass of each joint, and gathers all outcomes and all dropped
 /// records. If some thread found no memory, the answer is `NoMemory`.
-pub(crate) fn gather(
-    alloc: Global,
-    joints: &[Channel<Record>],
-    flow: Flow,
-) -> Result<Done, NoMemory>
+pub(crate) fn gather(alloc: Global, joints: &[SharedJoint], flow: Flow) -> Result<Done, NoMemory>
     requires few { length joints.now ≤ 8 }
     requires ends { AreEndsOf joints.now (Some flow.fed.write) flow.ends.items }
     ensures { IfOk result (Gathers flow) }

@@ -1,5 +1,5 @@
 // The texts of runs.
-ghost use Rattle.std.specs.Prelude.{◌≡◌, ◌++◌, if◌then◌else◌, [], IfOk, IsTrue, OnOk, List, ℕ};
+ghost use Rattle.std.specs.Prelude.{◌≡◌, if◌then◌else◌, [], IfOk, List, ℕ};
 ghost use Rattle.std.specs.List.Sorted.{IsNonDecreasingBy, IsPermutation, IsSortedBy};
 ghost use Rattle.joint_reports.specs.Reports.{has_drop_joint, may_drop};
 ghost use Rattle.record_lang.specs.Guards.{stop_code};
@@ -45,43 +45,19 @@ fn sort_dropped(dropped: &mut Vec<Dropped>)
     dropped.sort_unstable_by_key(|one| (one.joint, one.number));
 }
 
-fn push_outcomes(report: &mut Report, outcomes: Vec<Outcome>) -> Result<(), NoMemory>
-    ensures { OnOk result (report.new ≡ record report.old { outcomes = report.old.outcomes ++ outcomes.items }) }
-{
-    for outcome in outcomes {
-        report.push(outcome)?;
-    }
-    Ok(())
-}
-
-fn push_dropped(report: &mut Report, dropped: &[Dropped]) -> Result<(), NoMemory>
-    requires { IsTrue report.old.has_drops }
-    ensures { OnOk result (report.new ≡ record report.old { dropped = report.old.dropped ++ dropped.now }) }
-{
-    for one in dropped {
-        report.push_dropped(*one)?;
-    }
-    Ok(())
-}
-
 // The report of a run. What was dropped is told only where a joint may drop.
 fn report_of(
     alloc: Global,
     has_drops: bool,
     outcomes: Vec<Outcome>,
-    dropped: &[Dropped],
-) -> Result<Report, NoMemory>
-    ensures { IfOk result (λ r. r ≡ record { outcomes = outcomes.items; has_drops = has_drops; dropped = if has_drops then dropped.now else [] }) }
+    dropped: Vec<Dropped>,
+) -> Report
+    ensures { result ≡ record { outcomes = outcomes.items; has_drops = has_drops; dropped = if has_drops then dropped.items else [] } }
 {
     if has_drops {
-        let mut report = Report::with_drops(alloc);
-        push_outcomes(&mut report, outcomes)?;
-        push_dropped(&mut report, dropped)?;
-        Ok(report)
+        Report::of_drops(outcomes, dropped)
     } else {
-        let mut report = Report::new(alloc);
-        push_outcomes(&mut report, outcomes)?;
-        Ok(report)
+        Report::of(alloc, outcomes)
     }
 }
 
@@ -103,7 +79,7 @@ pub(crate) fn ran_of(
     } = done;
     sort_outcomes(&mut outcomes);
     sort_dropped(&mut dropped);
-    let report = report_of(alloc, has_drop_joint(pipeline), outcomes, &dropped)?;
+    let report = report_of(alloc, has_drop_joint(pipeline), outcomes, dropped);
     let text = report.text(alloc, code)?;
     Ok(Ran::new(text, joints))
 }

@@ -99,7 +99,12 @@ fn run_all<G: Gate, R: Wait + Threads + Sync>(
     } = start_joints(alloc, pipeline, workers)?;
     let ends = Vec::with_capacity(alloc, kits.len())?;
     let feed = Feed { fed, write: feeds };
-    let start = Start { kits, feed, ends };
+    let start = Start {
+        kits,
+        feed,
+        ends,
+        all_started: true,
+    };
     let flow = flow_all(rt, alloc, pipeline, &joints, gate, start);
     gather(alloc, &joints, flow)
 }
@@ -132,9 +137,10 @@ fn run_joints<G: Gate, R: Wait + Threads + Sync>(
 ///
 /// Without memory a worker takes no further record to its stage, and drains its joint; each crew completes
 /// the next joint all the same, all threads are joined, and the answer is `NoMemory`. A crew for which the
-/// system starts no thread comes last, after all that feed its joint: a joint that waits for room may then
-/// wait for ever. Time is that of the stages' work and of sorting outcomes by number; memory is linear in
-/// the records and in what the stages make of them.
+/// system starts no thread comes last, after all that feed its joint: so then nothing is fed, and the answer
+/// is `NoMemory` too. A worker without a thread comes after the others of its crew, and the run goes on
+/// without it. Time is that of the stages' work and of sorting outcomes by number; memory is linear in the
+/// records and in what the stages make of them.
 pub fn run_pipeline<G: Gate, R: Wait + Threads + Sync>(
     rt: &R,
     alloc: Global,

@@ -5,9 +5,11 @@ ghost use Rattle.turn_lock.specs.Passes.{LockPass};
 ghost use Rattle.stage_pipeline.specs.Crews.{IsNewAtTo};
 ghost use Rattle.stage_pipeline.specs.Seats.{AreOfTo, IsOfTo, IsSeat, JoinsTo, SeatEnds, SplitsSeat, SplitsTo, TakesIn, IsToldFault};
 
+use crate::gauge::Gauge;
+use crate::shared::SharedJoint;
 use crate::sides::joint_of;
 use crate::workers::{Job, WorkerEnd, work};
-use channels::{Channel, Reader, Writer};
+use channels::{Reader, Writer};
 use ho_base::Fault;
 use ho_io::Gate;
 use record_lang::{Outcome, Pipeline, Record};
@@ -43,7 +45,7 @@ pub(crate) struct SeatEnd {
 
 // A writer by a pass that is there.
 fn writer_of<'c>(
-    joints: &'c [Channel<Record>],
+    joints: &'c [SharedJoint],
     index: u32,
     pass: Option<Pass>,
 ) -> Option<Writer<'c, Record>>
@@ -53,7 +55,7 @@ fn writer_of<'c>(
     let Some(pass) = pass else {
         return None;
     };
-    Some(Writer::new(joint_of(joints, index, &pass), pass))
+    Some(Writer::new(joint_of(joints, index, &pass).channel(), pass))
 }
 
 fn into_pass(writer: Option<Writer<'_, Record>>) -> Option<Pass>
@@ -65,13 +67,22 @@ fn into_pass(writer: Option<Writer<'_, Record>>) -> Option<Pass>
     Some(writer.into_pass())
 }
 
-// The work of one worker.
+// How full the joint at an index is, or else another one.
+fn gauge_at<'c>(joints: &'c [SharedJoint], index: u32, other: &'c Gauge) -> &'c Gauge {
+    match joints.get(index as usize) {
+        Some(joint) => joint.gauge(),
+        None => other,
+    }
+}
+
+// The work of one worker, the first of its crew or a further one.
 fn work_at<G: Gate, R: Wait>(
     rt: &R,
     alloc: Global,
     pipeline: &Pipeline,
-    joints: &[Channel<Record>],
+    joints: &[SharedJoint],
     gate: &G,
+    is_first: bool,
     seat: Seat,
 ) -> SeatEnd
     requires { IsSeat (length pipeline.now.stages) joints.now 1 seat }
@@ -84,10 +95,14 @@ fn work_at<G: Gate, R: Wait>(
         read,
         write,
     } = seat;
+    let joint = joint_of(joints, stage - 1, &read);
     let job = Job {
         stage,
         number,
-        reader: Reader::new(joint_of(joints, stage - 1, &read), read),
+        is_first,
+        from: joint.gauge(),
+        to: gauge_at(joints, stage, joint.gauge()),
+        reader: Reader::new(joint.channel(), read),
         writer: writer_of(joints, stage, write),
     };
     let WorkerEnd {
@@ -109,31 +124,33 @@ fn work_at<G: Gate, R: Wait>(
 }
 
 // Splits off a pass with one number, if there is a pass.
-fn split_to(joints: &[Channel<Record>], index: u32, pass: &mut Option<Pass>) -> Option<Pass>
+fn split_to(joints: &[SharedJoint], index: u32, pass: &mut Option<Pass>) -> Option<Pass>
     requires { (numbers : ℕ) × IsNewAtTo joints.now index (numbers + 2) pass.old }
     ensures { SplitsTo pass.old pass.new result }
 {
     let Some(pass) = pass.as_mut() else {
         return None;
     };
-    Some(joint_of(joints, index, pass).split(pass))
+    Some(joint_of(joints, index, pass).channel().split(pass))
 }
 
 // Splits off the seat of one worker, which has this number at the gate.
-fn split(joints: &[Channel<Record>], seat: &mut Seat, number: u32) -> Seat
+fn split(joints: &[SharedJoint], seat: &mut Seat, number: u32) -> Seat
     requires { (numbers : ℕ) × (stages : ℕ) × IsSeat stages joints.now (numbers + 2) seat.old }
     ensures { SplitsSeat number seat.old seat.new result }
 {
     Seat {
         stage: seat.stage,
         number,
-        read: joint_of(joints, seat.stage - 1, &seat.read).split(&mut seat.read),
+        read: joint_of(joints, seat.stage - 1, &seat.read)
+            .channel()
+            .split(&mut seat.read),
         write: split_to(joints, seat.stage, &mut seat.write),
     }
 }
 
 // Joins a pass to another, if both are there.
-fn join_to(joints: &[Channel<Record>], index: u32, pass: &mut Option<Pass>, other: Option<Pass>)
+fn join_to(joints: &[SharedJoint], index: u32, pass: &mut Option<Pass>, other: Option<Pass>)
     requires { AreOfTo joints.now index pass.old other }
     ensures { JoinsTo pass.old other pass.new }
 {
@@ -143,13 +160,18 @@ fn join_to(joints: &[Channel<Record>], index: u32, pass: &mut Option<Pass>, othe
     let Some(other) = other else {
         return;
     };
-    joint_of(joints, index, pass).join(pass, other);
+    joint_of(joints, index, pass).channel().join(pass, other);
 }
 
-// Moves all of a list to the end of another, where there is memory.
-fn append<T: Drop>(all: &mut Vec<T>, mut more: Vec<T>) -> bool
+// Moves all of a list to the end of another, where there is memory. To an empty one it goes as it is.
+fn append<T: Drop>(all: &mut Vec<T>, more: Vec<T>) -> bool
     ensures { result ≡ true → all.new.items ≡ all.old.items ++ more.items }
 {
+    if all.is_empty() {
+        *all = more;
+        return true;
+    }
+    let mut more = more;
     all.append(&mut more).is_ok()
 }
 
@@ -160,7 +182,7 @@ fn are_all(a: bool, b: bool, c: bool, d: bool) -> bool
 }
 
 // Takes in what another worker of the stage left.
-fn take_in(joints: &[Channel<Record>], stage: u32, end: SeatEnd, other: SeatEnd) -> SeatEnd
+fn take_in(joints: &[SharedJoint], stage: u32, end: SeatEnd, other: SeatEnd) -> SeatEnd
     requires from { 1 ≤ stage }
     requires read { (slice_get joints.now (stage - 1) ≡ Some end.read.table) × (slice_get joints.now (stage - 1) ≡ Some other.read.table) }
     requires write { AreOfTo joints.now stage end.write other.write }
@@ -174,7 +196,9 @@ fn take_in(joints: &[Channel<Record>], stage: u32, end: SeatEnd, other: SeatEnd)
         fault: _,
         whole,
     } = end;
-    joint_of(joints, stage - 1, &read).join(&mut read, other.read);
+    joint_of(joints, stage - 1, &read)
+        .channel()
+        .join(&mut read, other.read);
     join_to(joints, stage, &mut write, other.write);
     let outcomes = append(&mut over, other.over);
     let numbers = append(&mut lost, other.lost);
@@ -216,7 +240,7 @@ fn work_last<G: Gate, R: Wait>(
     rt: &R,
     alloc: Global,
     pipeline: &Pipeline,
-    joints: &[Channel<Record>],
+    joints: &[SharedJoint],
     gate: &G,
     mut seat: Seat,
 ) -> SeatEnd
@@ -227,7 +251,7 @@ fn work_last<G: Gate, R: Wait>(
     let stage = seat.stage;
     let number = seat.number;
     let other = split(joints, &mut seat, number);
-    let end = work_at(rt, alloc, pipeline, joints, gate, other);
+    let end = work_at(rt, alloc, pipeline, joints, gate, true, other);
     take_in(joints, stage, unused(alloc, seat), end)
 }
 
@@ -238,7 +262,7 @@ pub(crate) fn work_all<G: Gate, R: Wait + Threads + Sync>(
     rt: &R,
     alloc: Global,
     pipeline: &Pipeline,
-    joints: &[Channel<Record>],
+    joints: &[SharedJoint],
     gate: &G,
     workers: u32,
     mut seat: Seat,
@@ -260,7 +284,7 @@ pub(crate) fn work_all<G: Gate, R: Wait + Threads + Sync>(
         move || -> SeatEnd
             requires { IsSync R.row × IsSync G.row × IsSeat (length pipeline.now.stages) joints.now 1 other }
             ensures { SeatEnds pipeline.entry.now 1 other result × IsToldFault result }
-        { work_at(rt, alloc, pipeline, joints, gate, other) },
+        { work_at(rt, alloc, pipeline, joints, gate, false, other) },
         move || -> SeatEnd
             requires { IsSync R.row × IsSync G.row × (1 ≤ left) × IsSeat (length pipeline.now.stages) joints.now (left + 1) seat }
             ensures { SeatEnds pipeline.entry.now left seat result }

@@ -3,18 +3,14 @@ ghost use Rattle.std.specs.Prelude.{◌≡◌, Some, slice_get};
 ghost use Rattle.channel_core.specs.Marks.{fault_number};
 ghost use Rattle.stage_pipeline.specs.Crews.{Completes};
 
-use channels::{Channel, Writer};
+use crate::shared::SharedJoint;
+use channels::Writer;
 use ho_base::Fault;
-use record_lang::Record;
 use std::sync::Wait;
 use turn_lock::Pass;
 
 /// The joint at an index, counted from 0, of which this is a pass.
-pub(crate) fn joint_of<'c>(
-    joints: &'c [Channel<Record>],
-    index: u32,
-    pass: &Pass,
-) -> &'c Channel<Record>
+pub(crate) fn joint_of<'c>(joints: &'c [SharedJoint], index: u32, pass: &Pass) -> &'c SharedJoint
     requires { slice_get joints.now index ≡ Some pass.now.table }
     ensures { result.now ≡ pass.entry.now.table }
 {
@@ -24,14 +20,15 @@ pub(crate) fn joint_of<'c>(
 /// Completes a joint by this pass, as the last call by it, and gives the pass back.
 pub(crate) fn complete<R: Wait>(
     rt: &R,
-    joint: &Channel<Record>,
+    joint: &SharedJoint,
     pass: Pass,
     fault: Option<Fault>,
 ) -> Pass
     requires { pass.table ≡ joint.now }
     ensures { Completes (fault_number fault) pass result }
 {
-    let mut writer = Writer::new(joint, pass);
+    let mut writer = Writer::new(joint.channel(), pass);
     writer.try_complete(rt, fault);
+    joint.gauge().end();
     writer.into_pass()
 }

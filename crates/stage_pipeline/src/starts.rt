@@ -8,6 +8,7 @@ ghost use Rattle.stage_pipeline.specs.Runs.{channel_of};
 ghost use Rattle.stage_pipeline.specs.Starts.{AreSides, AreStarts, IsNewOf};
 
 use crate::kits::Kit;
+use crate::shared::SharedJoint;
 use channels::{Channel, MakeRefused, Mode};
 use ho_base::NoMemory;
 use record_lang::{Joint, Pipeline, Record};
@@ -17,7 +18,7 @@ use turn_lock::Pass;
 /// The joints of a run, and what its threads are started with.
 #[derive(Drop)]
 pub(crate) struct Starts {
-    pub(crate) joints: Vec<Channel<Record>>,
+    pub(crate) joints: Vec<SharedJoint>,
     /// The crews' kits, in order of their stages.
     pub(crate) kits: Vec<Kit>,
     /// The feeder's pass of the first joint.
@@ -81,13 +82,23 @@ fn split_many(channel: &Channel<Record>, pass: &mut Pass, count: u32) -> Pass
     others
 }
 
+// How much room a write may have to wait for. Where none waits, there is any.
+fn room_of(line: Joint) -> u64 {
+    match line {
+        Joint::Wait(capacity) => u64::from(capacity),
+        Joint::DropNewest(_) | Joint::DropOldest(_) | Joint::DropWrite(_) | Joint::Unbounded => {
+            u64::MAX
+        }
+    }
+}
+
 // A joint, and the passes of its two sides, with so many numbers each.
 fn make_joint(
     alloc: Global,
     line: Joint,
     writers: u32,
     readers: u32,
-) -> Result<(Channel<Record>, Sides), NoMemory>
+) -> Result<(SharedJoint, Sides), NoMemory>
     requires writers { (1 ≤ writers) × (writers ≤ 32) }
     requires readers { (1 ≤ readers) × (readers ≤ 32) }
     requires buildable { IsBuildable line }
@@ -95,7 +106,8 @@ fn make_joint(
 {
     let (channel, mut write) = channel_of(alloc, line, writers + readers)?;
     let read = split_many(&channel, &mut write, readers);
-    Ok((channel, Sides { write, read }))
+    let joint = SharedJoint::new(channel, room_of(line));
+    Ok((joint, Sides { write, read }))
 }
 
 /// Makes the joints of a pipeline, for so many workers at each stage, and splits their passes between the

@@ -9,6 +9,7 @@ ghost use Rattle.record_lang.specs.declared.pipelines.Stage.{Stage};
 ghost use Rattle.joint_reports.specs.Through.{says};
 ghost use Rattle.stage_pipeline.specs.Works.{IfEnded, IfMore, IsNewTo, KeepsPlace, KeepsPlaceTo, PassesOn, Sends, WorksOff, counts};
 
+use crate::gauge::Gauge;
 use channel_wait::{ReadEnd, WriteEnd, read_without_token, write_without_token};
 use channels::{ReadReply, Reader, Writer};
 use ho_base::{Fault, Item};
@@ -24,6 +25,11 @@ pub(crate) struct Job<'c> {
     pub(crate) stage: u32,
     /// Its number at the gate.
     pub(crate) number: u32,
+    /// It is the first worker of its crew.
+    pub(crate) is_first: bool,
+    /// How full its joint is, and the next one.
+    pub(crate) from: &'c Gauge,
+    pub(crate) to: &'c Gauge,
     pub(crate) reader: Reader<'c, Record>,
     pub(crate) writer: Option<Writer<'c, Record>>,
 }
@@ -59,6 +65,11 @@ struct Turns<'g, G: Gate> {
     gate: &'g G,
     worker: u32,
     turn: u64,
+    is_first: bool,
+    /// How many records it reads yet, as a further worker, before it naps.
+    reads: u32,
+    from: &'g Gauge,
+    to: &'g Gauge,
 }
 
 impl<'g, G: Gate> Turns<'g, G> {
@@ -67,6 +78,15 @@ impl<'g, G: Gate> Turns<'g, G> {
         self.gate.at(rt, self.worker, self.turn);
         self.turn = self.turn.saturating_add(1);
     }
+
+    // Looks whether there is something to read.
+    fn await_record<R: Wait>(&mut self, rt: &R) {
+        if self.is_first {
+            self.from.await_record(rt);
+        } else {
+            self.from.await_backlog(rt, &mut self.reads);
+        }
+    }
 }
 
 // Writes a record, and keeps the number of one that was dropped.
@@ -74,6 +94,7 @@ impl<'g, G: Gate> Turns<'g, G> {
 pub(crate) fn send<R: Wait>(
     rt: &R,
     writer: &mut Writer<'_, Record>,
+    to: &Gauge,
     row: Record,
     lost: &mut Vec<u64>,
 ) -> Turn
@@ -81,8 +102,12 @@ pub(crate) fn send<R: Wait>(
     ensures sent { IfMore result (Sends (mark_of row) writer.old writer.new lost.old.items lost.new.items) }
     ensures open { IfEnded result (λ fault. ⊥) }
 {
+    to.await_room(rt);
     match write_without_token(rt, writer, row) {
-        Ok(WriteEnd::Done) => Turn::More,
+        Ok(WriteEnd::Done) => {
+            to.wrote();
+            Turn::More
+        }
         Ok(WriteEnd::Dropped(other)) => match lost.push(other.number()) {
             Ok(()) => Turn::More,
             Err(_) => Turn::GaveUp,
@@ -124,7 +149,7 @@ fn pass_on<G: Gate, R: Wait>(
     match outcome {
         Outcome::Result(row) => {
             turns.next(rt);
-            send(rt, to, row, lost)
+            send(rt, to, turns.to, row, lost)
         }
         Outcome::Refused {
             number,
@@ -172,12 +197,14 @@ fn take_one<G: Gate, R: Wait>(
         × (0 < counts (is_closed_with (fault_number fault)) desk.new.reader)) }
 {
     turns.next(rt);
+    turns.await_record(rt);
     let row = match read_without_token(rt, &mut desk.reader) {
         Ok(ReadEnd::Item(row)) => row,
         Ok(ReadEnd::Closed(fault)) => return Turn::Ended(fault),
         Ok(ReadEnd::Cancelled) => unreachable!(),
         Err(_) => return Turn::GaveUp,
     };
+    turns.from.took();
     match apply_stage(pipeline, stage, row) {
         Ok(outcome) => pass_on(
             rt,
@@ -201,7 +228,10 @@ fn drain<G: Gate, R: Wait>(rt: &R, turns: &mut Turns<'_, G>, reader: &mut Reader
         turns.next(rt);
         match reader.try_read(rt) {
             ReadReply::Closed(_) => return,
-            ReadReply::Item(_) => pause.reset(),
+            ReadReply::Item(_) => {
+                turns.from.took();
+                pause.reset();
+            }
             ReadReply::Empty => pause.take(rt),
         }
     }
@@ -255,7 +285,7 @@ pub(crate) fn work<'c, G: Gate, R: Wait>(
     rt: &R,
     alloc: Global,
     pipeline: &Pipeline,
-    gate: &G,
+    gate: &'c G,
     job: Job<'c>,
 ) -> WorkerEnd<'c>
     requires stage { (1 ≤ job.stage) × (job.stage ≤ length pipeline.now.stages) }
@@ -268,6 +298,9 @@ pub(crate) fn work<'c, G: Gate, R: Wait>(
     let Job {
         stage,
         number,
+        is_first,
+        from,
+        to,
         reader,
         writer,
     } = job;
@@ -275,6 +308,10 @@ pub(crate) fn work<'c, G: Gate, R: Wait>(
         gate,
         worker: number,
         turn: 0,
+        is_first,
+        reads: 0,
+        from,
+        to,
     };
     let mut desk = Desk {
         reader,

@@ -96,7 +96,7 @@ module _ (Awaits : LockPass → CallMark → ℕ → Type 0) where
     unset_end Answers GivesUp m one end = record {
       count = a.count;
       all = then_one priority p q r number a.count a.polls same (last_call v.seen number) m one;
-      looked = looks_out t u v a.count a.looked v.seen look;
+      looked = looks_out t u v a.count a.looked v.seen look for_good;
       end = λ b w. end b (a.polls.stays b w);
     }
 
