@@ -1,23 +1,12 @@
 -- What tasks come to.
-use Rattle.std.proofs.Common.{◌≡◌, ◌∙◌, ℕ, List, Bool, true, false, if◌then◌else◌, Option, Some, None, IfOk, IfSome, Result, Ok, Err, refl, sym, subst}
-use Rattle.drive_kit.specs.Plans.{Plan}
-use Rattle.drive_kit.specs.declared.check.Checked.{Checked}
-use Rattle.drive_kit.specs.declared.check.Checked.TheVariants as checked
-use Rattle.record_lang.specs.Guards.{is_stopped}
-use Rattle.record_cli.specs.Answers.{Answer, Computes, Gives, IsAnswerOf, IsRefused, IsThis, StopsWith, answer_in, has_read_fault, is_read_fault}
-use Rattle.record_cli.specs.Check.{IsJudged, IsPlayed, verdict}
-use Rattle.record_cli.specs.Commands.{Task, Plain, Run, Drive, Check, Made}
-use Rattle.record_cli.specs.Inputs.{plain_text}
+use Rattle.std.proofs.Common.{◌≡◌, true, false, Some, IfOk, IfSome, Result, Ok, Err, sym, subst}
+use Rattle.record_cli.specs.Answers.{Answer, Computes, IsAnswerOf, IsRefused, StopsWith, answer_in, has_read_fault, is_read_fault}
+use Rattle.record_cli.specs.Commands.{Task, is_reading}
 use Rattle.record_cli.specs.Leaves.{Comes}
 use Rattle.record_cli.specs.Reading.{Fetches, Files, Reading, ShelfState}
-use Rattle.record_cli.specs.Tasks.{IsMadeRun, IsRun, IsShowing, IsShownWith, IsTaskAnswer, ShowsWhere, is_done, is_end, reading_for}
+use Rattle.record_cli.specs.Tasks.{IsAnswerTo, IsTaskAnswer, reading_for}
 use Rattle.record_cli.proofs.Files.{map_some}
 use Rattle.record_cli.specs.declared.answer.Answer.{Answer as Computed}
-use Rattle.record_cli.specs.declared.check.Judged.{Judged}
-use Rattle.record_cli.specs.declared.finished.Shown.TheVariants as show
-use Rattle.record_cli.specs.declared.inputs.Inputs.{Inputs}
-use Rattle.record_cli.specs.declared.status.Status.{Status}
-use Rattle.record_cli.specs.declared.status.Status.TheVariants as status
 use Rattle.record_cli.specs.declared.stopped.Stopped.{Stopped}
 use Rattle.record_cli.specs.declared.stopped.Stopped.TheVariants as stopped
 
@@ -37,43 +26,28 @@ pub read_on : (reading : Reading) (a b : ShelfState) {X : Type 0} (computed : Re
 read_on reading a b computed e h = subst (λ f. Fetches reading a b f) (sym e) h
 
 -- what holds of the answers of a task is known of the answer that was computed
-pub shows : (P Q : Answer → Type 0) (computed : Result Computed Stopped) → Computes P computed → ((answer : Answer) → P answer → Q answer) → IfOk computed (λ answer. Q (answer_in answer))
-shows P Q (Ok answer) h f = f (answer_in answer) h
-shows P Q (Err stop) h f = tt
+given : (P Q : Answer → Type 0) (computed : Result Computed Stopped) → Computes P computed → ((answer : Answer) → P answer → Q answer) → IfOk computed (λ answer. Q (answer_in answer))
+given P Q (Ok answer) h f = f (answer_in answer) h
+given P Q (Err stop) h f = tt
 
-done_shows : (task : Option Task) (answer : Answer) (s : Status) → answer.status ≡ s → is_done s ≡ true → IsShowing task answer → ShowsWhere (is_done answer.status) task answer
-done_shows task answer s e d h = subst (λ t. ShowsWhere (is_done t) task answer) (sym e) (subst (λ b. ShowsWhere b task answer) (sym d) h)
+-- A command that reads files: what refuses one of them ends it, and else its answer is made of what they hold.
+module _ {X : Type 0} (P : X → Answer → Type 0) (e : Files → Result X Answer) (task : Task) (is : (files : Files) → (λ (answer : Answer). IsTaskAnswer files (Some task) answer) ≡ IsAnswerOf P (e files))
+    (is_made : (x : X) (answer : Answer) → P x answer → IsAnswerTo (Some task) answer) (reads : is_reading (Some task) ≡ true) (a b : ShelfState) where
+  pub refused_comes : (computed : Result Computed Stopped) (stop : Stopped) → computed ≡ Err stop → Fetches (reading_for (Some task)) a b (is_read_fault stop) → IfSome a.files (λ files. StopsWith (IsRefused (e files)) stop) → Comes (Some task) a b computed
+  refused_comes computed stop same fetches refused =
+      subst (λ (r : Result Computed Stopped). Comes (Some task) a b r) (sym same) (record {
+        fetches = fetches;
+        answer = map_some a.files refused (λ files h. subst (λ (Q : Answer → Type 0). StopsWith Q stop) (sym (is files)) (refusal_answers P (e files) stop h));
+        made = tt;
+        unread = λ r. cc;
+        unfailed = λ r. cc;
+      })
 
-run_end_shows : (task : Option Task) (answer : Answer) (stops : Bool) → answer.status ≡ (if stops then status.Ended else status.Done) → IsShowing task answer → ShowsWhere (is_end answer.status) task answer
-run_end_shows task answer true e h = subst (λ t. ShowsWhere (is_end t) task answer) (sym e) h
-run_end_shows task answer false e h = subst (λ t. ShowsWhere (is_end t) task answer) (sym e) h
-
-pub plain_shows : (pipe file : List ℕ) (inputs : Inputs) (answer : Answer) → IsThis (plain_text inputs) answer → IsShownWith (Some (Plain pipe file)) answer
-plain_shows pipe file inputs answer h = h.shown
-
-verdict_shows_nothing : (told : Checked) → (verdict told).shown ≡ show.Nothing
-verdict_shows_nothing (checked.Legal entries) = refl
-verdict_shows_nothing (checked.Illegal at) = refl
-verdict_shows_nothing (checked.Lacking caller index) = refl
-
-pub judged_shows : (script history : List ℕ) (judged : Judged) (answer : Answer) → IsJudged judged answer → IsShownWith (Some (Check script history)) answer
-judged_shows script history judged answer h = h.2.shown ∙ verdict_shows_nothing h.0
-
-pub drive_shows : (script : List ℕ) (plan : Plan) (answer : Answer) → IsPlayed plan answer → IsShownWith (Some (Drive script)) answer
-drive_shows script plan answer h = done_shows (Some (Drive script)) answer status.Done h.3.status refl (plan, h)
-
-pub made_shows : (count seed workers : ℕ) (answer : Answer) → IsMadeRun count seed workers answer → IsShownWith (Some (Made count seed workers)) answer
-made_shows count seed workers answer h = done_shows (Some (Made count seed workers)) answer status.Done h.2.status refl h
-
-pub run_shows : (pipe file : List ℕ) (workers : ℕ) (inputs : Inputs) (answer : Answer) → IsRun workers inputs answer → IsShownWith (Some (Run pipe file workers)) answer
-run_shows pipe file workers inputs answer h = run_end_shows (Some (Run pipe file workers)) answer (is_stopped inputs.pipeline.guard inputs.records) h.2.status (inputs, h)
-
-module _ (task : Task) (a b : ShelfState) where
-  -- a task that was stopped
-  pub stopped_comes : (stop : Stopped) → Fetches (reading_for (Some task)) a b (is_read_fault stop) → IfSome a.files (λ files. StopsWith (IsTaskAnswer files (Some task)) stop) → Comes (Some task) a b (Err stop)
-  stopped_comes stop fetches h = record { fetches = fetches; answer = h; shows = tt; usage = tt }
-
-  -- a task whose files were read
-  pub answered_comes : (computed : Result Computed Stopped) → has_read_fault computed ≡ false → Fetches (reading_for (Some task)) a b false → IfSome a.files (λ files. Computes (IsTaskAnswer files (Some task)) computed)
-      → IfOk computed (λ answer. IsShownWith (Some task) (answer_in answer)) → Comes (Some task) a b computed
-  answered_comes computed unread fetches h shown = record { fetches = read_on (reading_for (Some task)) a b computed unread fetches; answer = h; shows = shown; usage = tt }
+  pub made_comes : (x : X) (computed : Result Computed Stopped) → has_read_fault computed ≡ false → Fetches (reading_for (Some task)) a b false → IfSome a.files (λ files. e files ≡ Ok x) → Computes (P x) computed → Comes (Some task) a b computed
+  made_comes x computed unread fetches is_read h = record {
+    fetches = read_on (reading_for (Some task)) a b computed unread fetches;
+    answer = map_some a.files is_read (λ files e_is. subst (λ (Q : Answer → Type 0). Computes Q computed) (sym (is files)) (answers P (e files) x computed e_is h));
+    made = given (P x) (IsAnswerTo (Some task)) computed h (is_made x);
+    unread = λ r. cc;
+    unfailed = λ r. cc;
+  }

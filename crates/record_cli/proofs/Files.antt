@@ -154,3 +154,20 @@ module _ {A B C : Type 0} (first : List ℕ) (limit : ℕ) (meaning : List ℕ �
   pub both_mean : (files : Files) (text : List ℕ) (a : A) (bytes : List ℕ) (b : B) → first_file files ≡ Ok text → meaning text ≡ Ok a → second_file files ≡ Ok bytes → beside a bytes ≡ Ok b → both files ≡ Ok (make a b)
   both_mean files text a bytes b e m f g =
       goes_on (judged files) (then_second files) a (is_judged files text a e m) ∙ (goes_on (second_file files) (λ bytes. made_of (make a) (beside a bytes)) bytes f ∙ made (make a) (beside a bytes) b g)
+
+  -- the first file is fine, and the second was read
+  pub then_read : (a b c : ShelfState) (text : List ℕ) (x : A) (f g : Bool) → Fetches (OneFile first limit) a b false → IfSome a.files (λ files. first_file files ≡ Ok text) → meaning text ≡ Ok x
+      → g ≡ f → Fetches (OneFile second second_limit) b c f → Fetches (TwoFiles first limit (λ text. is_ok (meaning text)) second second_limit) a c g
+  then_read a b c text x f g h loaded means same k =
+      let fine : IfSome a.files (λ files. IsTrue (is_fine_file limit (λ text. is_ok (meaning text)) (files first))) =
+      map_some a.files loaded (λ files e. is_fine first limit meaning (files first) text x e means) in
+      subst (λ f. Fetches (TwoFiles first limit (λ text. is_ok (meaning text)) second second_limit) a c f) (sym same)
+      (both_read first limit (λ text. is_ok (meaning text)) second second_limit a b c f h fine k)
+
+  -- the first file is fine, and the second was read and is refused
+  pub then_refused : (told still : Option Files) (text : List ℕ) (x : A) (bytes : List ℕ) (stop : Stopped) (r : Result C Stopped) → still ≡ told → IfSome told (λ files. first_file files ≡ Ok text) → meaning text ≡ Ok x
+      → IfSome still (λ files. second_file files ≡ Ok bytes) → Gives (beside x bytes) (Err stop) → r ≡ Err stop → IfSome told (λ files. Gives (both files) r)
+  then_refused told still text x bytes stop r kept loaded means next refused same =
+      let second_loaded : IfSome told (λ files. second_file files ≡ Ok bytes) = subst (λ o. IfSome o (λ files. second_file files ≡ Ok bytes)) kept next in
+      map_both told loaded second_loaded (λ files e f.
+      subst (λ (r : Result C Stopped). Gives (both files) r) (sym same) (refused_by_second files text x bytes stop e means f refused))

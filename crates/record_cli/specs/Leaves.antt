@@ -2,12 +2,12 @@
 use Rattle.std.specs.Prelude.{◌≡◌, ◌≤◌, ◌+◌, ⊤, ℕ, List, Bool, true, false, length, Option, Some, None, IfOk, IfSome, Result, Ok, Err}
 use Rattle.ho_io.specs.Counts.{Rose, counted}
 use Rattle.ho_io.specs.Whole.{TookFirst}
-use Rattle.record_cli.specs.Answers.{Answer, Computes, IsThis, answer_in, has_read_fault, row_in, usage}
-use Rattle.record_cli.specs.Commands.{Task, Plain, Run, Drive, Check, Made}
+use Rattle.record_cli.specs.Answers.{Answer, Computes, answer_in, has_read_fault, row_in}
+use Rattle.record_cli.specs.Commands.{Task, Run, is_reading}
 use Rattle.record_cli.specs.Inputs.{inputs_of, plain_answer}
 use Rattle.record_cli.specs.Reading.{Fetches, Files, ShelfState}
 use Rattle.record_cli.specs.Statuses.{is_read_fault, is_refusal, write_faults}
-use Rattle.record_cli.specs.Tasks.{IsDropless, IsShowing, IsShownWith, IsTaskAnswer, is_showing, reading_for}
+use Rattle.record_cli.specs.Tasks.{IsAnswerTo, IsDropless, IsTaskAnswer, MayAnswer, is_showing, reading_for}
 use Rattle.record_cli.specs.declared.answer.Answer.{Answer as Computed}
 use Rattle.record_cli.specs.declared.finished.Shown.{Shown}
 use Rattle.record_cli.specs.declared.finished.Shown.TheVariants as show
@@ -53,11 +53,17 @@ pub record Writes (answer : Answer) (before after : SinkState) (s : Status) : Ty
   pub puts : after.puts ≤ before.puts + length answer.text
   pub asked : HasAsked answer before.reserves after.reserves after.asked s
 
+-- There was no memory: nothing was put, and room was asked for once at most.
+pub record IsUnwritten (before after : SinkState) : Type 0 where
+  pub taken : after.taken ≡ before.taken
+  pub puts : after.puts ≡ before.puts
+  pub reserves : after.reserves ≤ before.reserves + 1
+
 -- what was written at each status, of an answer of which this holds: nothing at want of memory and where
--- a file could not be read, and else its whole text or a front of it
+-- a file could not be read, where room was not even asked for, and else its whole text or a front of it
 abbrev pub IsTold : (Answer → Type 0) → SinkState → SinkState → Status → Type 0
-IsTold P before after status.ReadFault = after.taken ≡ before.taken
-IsTold P before after status.NoMemory = after.taken ≡ before.taken
+IsTold P before after status.ReadFault = after ≡ before
+IsTold P before after status.NoMemory = IsUnwritten before after
 IsTold P before after s = (answer : Answer) × P answer × Writes answer before after s
 
 -- what was written where neither a read nor a write failed, of an answer of which this holds: its whole
@@ -82,15 +88,10 @@ shown_at other shown = show.Nothing
 abbrev pub Beside : (Answer → Type 0) → Status → Shown → Answer → Type 0
 Beside P s shown answer = P answer × (shown ≡ shown_at s answer.shown)
 
--- where something is shown, it is what an answer shows whose text was written whole; and else nothing is
+-- where something is shown, it is what the answer shows that was written; and else nothing is
 abbrev pub IsShownWhere : Bool → Option Task → SinkState → SinkState → Status → Shown → Type 0
-IsShownWhere true task before after s shown = (answer : Answer) × IsShowing task answer × IsWhole answer before.taken after.taken s × (shown ≡ answer.shown)
+IsShownWhere true task before after s shown = (answer : Answer) × IsAnswerTo task answer × Writes answer before after s × (shown ≡ answer.shown)
 IsShownWhere false task before after s shown = shown ≡ show.Nothing
-
--- words without a form have their row, whatever the files are
-abbrev pub TellsUsage : Option Task → SinkState → SinkState → Status → Type 0
-TellsUsage None before after s = IsAnswered usage before.taken after.taken s
-TellsUsage (Some task) before after s = ⊤
 
 -- on each pipeline and record file `run` writes the bytes and gives the status that `plain` does, refusals included, where no
 -- joint may drop
@@ -106,12 +107,13 @@ pub record Leaves (task : Option Task) (shelf shelf' : ShelfState) (sink sink' :
   pub fetches : Fetches (reading_for task) shelf shelf' (is_read_fault s)
   -- the task's answer was written
   pub answered : IfSome shelf.files (λ files. IsTold (Beside (IsTaskAnswer files task) s shown) sink sink' s)
-  -- some answer was written, over every shelf
-  pub written : (answer : Answer) × Writes answer sink sink' s
-  pub usage : TellsUsage task sink sink' s
+  -- over every shelf an answer was written that the task may have: without a file this is its one answer
+  pub told : IsTold (Beside (MayAnswer task) s shown) sink sink' s
+  -- only words without a form are told of by the row of usage, and only a task that reads files ends at a read fault
+  pub usage_only : s ≡ status.Usage → task ≡ None
+  pub reading_only : s ≡ status.ReadFault → is_reading task ≡ true
   pub shown_is : IsShownWhere (is_showing task s) task sink sink' s shown
   pub as_plain : IfSome shelf.files (λ files. RunsAsPlain files task sink sink' s)
-  pub unwritten : s ≡ status.NoMemory → sink'.puts ≡ sink.puts
   -- exactly one put failed at a write fault, and none at any other status
   pub later : sink.faults ≤ sink'.faults
   pub faults : sink'.faults ≡ write_faults sink.faults s
@@ -120,17 +122,15 @@ pub record Leaves (task : Option Task) (shelf shelf' : ShelfState) (sink sink' :
   pub complete : IfSome shelf.files (λ files. ¬ Rose shelf.faults shelf'.faults → ¬ Rose sink.faults sink'.faults
       → IsComplete (Beside (IsTaskAnswer files task) s shown) sink.taken sink'.taken s)
 
--- words without a form come to their row, whatever the files are
-abbrev pub ComesToUsage : Option Task → Result Computed Stopped → Type 0
-ComesToUsage None computed = Computes (IsThis usage) computed
-ComesToUsage (Some task) computed = ⊤
-
 -- What a task comes to before anything is written.
 pub record Comes (task : Option Task) (before after : ShelfState) (computed : Result Computed Stopped) : Type 0 where
   pub fetches : Fetches (reading_for task) before after (has_read_fault computed)
   pub answer : IfSome before.files (λ files. Computes (IsTaskAnswer files task) computed)
-  pub shows : IfOk computed (λ answer. IsShownWith task (answer_in answer))
-  pub usage : ComesToUsage task computed
+  -- over every shelf, where no file is refused
+  pub made : IfOk computed (λ answer. IsAnswerTo task (answer_in answer))
+  -- without a file nothing else is answered, and no fetch fails
+  pub unread : is_reading task ≡ false → Computes (IsAnswerTo task) computed
+  pub unfailed : is_reading task ≡ false → has_read_fault computed ≡ false
 
 -- an answer was written, or what is left of it
 pub record Ends (answer : Answer) (before after : SinkState) (s : Status) (shown : Shown) : Type 0 where

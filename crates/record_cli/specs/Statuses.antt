@@ -23,9 +23,8 @@ is_written status.WriteFault = false
 is_written status.NoMemory = false
 is_written other = true
 
--- whether a status is that of a refusal, which is told by one row
+-- whether a status is that of a refused file, which is told by one row
 abbrev pub is_refusal : Status → Bool
-is_refusal status.Usage = true
 is_refusal status.Missing = true
 is_refusal status.SpecRefused = true
 is_refusal status.InputRefused = true

@@ -1,14 +1,16 @@
 -- What each task answers, and how it reads its files.
-use Rattle.std.specs.Prelude.{◌≡◌, ⊤, ℕ, List, Bool, true, false, Option, Some, None, Result, Ok, Err}
+use Rattle.std.specs.Prelude.{◌≡◌, ◌⊎◌, ⊤, ℕ, List, Bool, true, false, Option, Some, None, Result, Ok, Err}
 use Rattle.drive_kit.specs.Plans.{Plan}
 use Rattle.stage_pipeline.specs.Reports.{has_drop_joint}
 use Rattle.stage_pipeline.specs.Made.{IsMade}
 use Rattle.stage_pipeline.specs.Runs.{IsRan, RanView}
 use Rattle.record_cli.specs.Answers.{Answer, IsAnswerOf, IsThis, usage}
 use Rattle.record_cli.specs.Check.{IsJudged, IsPlayed, judged_of, judged_reading, plan_of, script_reading}
-use Rattle.record_cli.specs.Commands.{Task, Plain, Run, Drive, Check, Made}
+use Rattle.record_cli.specs.Commands.{Task, Plain, Run, Drive, Check, Made, is_reading}
 use Rattle.record_cli.specs.Inputs.{end_status, inputs_of, inputs_reading, plain_text}
 use Rattle.record_cli.specs.Reading.{Files, Reading, NoFile}
+use Rattle.record_cli.specs.Statuses.{is_refusal}
+use Rattle.record_cli.specs.declared.check.Judged.{Judged}
 use Rattle.record_cli.specs.declared.finished.Shown.TheVariants as show
 use Rattle.record_cli.specs.declared.inputs.Inputs.{Inputs}
 use Rattle.record_cli.specs.declared.status.Status.{Status}
@@ -61,23 +63,25 @@ is_showing (Some (Drive script)) s = is_done s
 is_showing (Some (Check script history)) s = false
 is_showing (Some (Made count seed workers)) s = is_done s
 
--- what is shown beside a task's text, whatever the files are: the object of some script, the joints of a run of some pipeline
--- over some records with the task's workers, or those of a run on made records
-abbrev pub IsShowing : Option Task → Answer → Type 0
-IsShowing None answer = ⊥
-IsShowing (Some (Plain pipe file)) answer = ⊥
-IsShowing (Some (Run pipe file workers)) answer = (inputs : Inputs) × IsRun workers inputs answer
-IsShowing (Some (Drive script)) answer = (plan : Plan) × IsPlayed plan answer
-IsShowing (Some (Check script history)) answer = ⊥
-IsShowing (Some (Made count seed workers)) answer = IsMadeRun count seed workers answer
+-- what a task answers where no file is refused, whatever the files hold: the one-thread text of some pipeline and records, a run
+-- of some with the task's workers, the history of some script, the verdict on some history, or a run on the records that the
+-- task's numbers make
+abbrev pub IsAnswerTo : Option Task → Answer → Type 0
+IsAnswerTo None answer = IsThis usage answer
+IsAnswerTo (Some (Plain pipe file)) answer = (inputs : Inputs) × IsThis (plain_text inputs) answer
+IsAnswerTo (Some (Run pipe file workers)) answer = (inputs : Inputs) × IsRun workers inputs answer
+IsAnswerTo (Some (Drive script)) answer = (plan : Plan) × IsPlayed plan answer
+IsAnswerTo (Some (Check script history)) answer = (judged : Judged) × IsJudged judged answer
+IsAnswerTo (Some (Made count seed workers)) answer = IsMadeRun count seed workers answer
 
--- something is shown where it is to be, and else nothing
-abbrev pub ShowsWhere : Bool → Option Task → Answer → Type 0
-ShowsWhere true task answer = IsShowing task answer
-ShowsWhere false task answer = answer.shown ≡ show.Nothing
+-- the row of a refused file, beside which nothing is shown
+pub record IsRefusalRow (answer : Answer) : Type 0 where
+  pub status : is_refusal answer.status ≡ true
+  pub shown : answer.shown ≡ show.Nothing
 
-abbrev pub IsShownWith : Option Task → Answer → Type 0
-IsShownWith task answer = ShowsWhere (is_showing task answer.status) task answer
+-- what a task may answer, whatever the files hold: this, or, where it reads files, the row of a refused one
+abbrev pub MayAnswer : Option Task → Answer → Type 0
+MayAnswer task answer = IsAnswerTo task answer ⊎ ((is_reading task ≡ true) × IsRefusalRow answer)
 
 -- no joint of the pipeline may drop
 abbrev pub IsDropless : Result Inputs Answer → Type 0

@@ -14,7 +14,7 @@ pub(crate) struct Answer {
     ghost written: { IsTrue (is_written status) },
 }
 
-/// The row that tells a refusal.
+/// The row that tells of a refused file.
 #[derive(Drop)]
 pub(crate) struct Row {
     pub status: Status,

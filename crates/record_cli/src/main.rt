@@ -9,6 +9,11 @@
 //! a script was played, or a pipeline run on many threads, and the text written whole, `run` shows the whole
 //! passes of the objects that it stood on, and else nothing. Where no joint may drop, `run PIPE FILE
 //! WORKERS` writes what `plain PIPE FILE` writes. `docs/FORMATS.md` tells commands, statuses and texts.
+//!
+//! Where standard error is a terminal and threads are at work for more than a second, `progress` tells there
+//! how far they are. It is a gate and a sink of the program's own, so it stands under the same contracts:
+//! what it shows, none of them says.
+//!
 //! The crate stands on `record_lang` for what a pipeline and records mean, on `drive_kit` for scripts,
 //! their callers and the verdict on a history, on `stage_pipeline` for runs on many threads, on
 //! `text_rows` for rows as they are written, on `ho_io` for files, output and gates, and on `ho_base` for
@@ -27,6 +32,7 @@ mod inputs;
 mod load;
 mod piped;
 mod plain;
+mod progress;
 mod rows;
 mod run;
 mod status;
@@ -39,7 +45,7 @@ use crate::status::Status;
 use ho_base::Word;
 use ho_io::{DiskShelf, OpenGate, TerminalSink};
 use std::env;
-use std::io::ErrorKind;
+use std::io::{ErrorKind, IsTerminal};
 use std::process::ExitCode;
 
 /// The exit status where the words can't be taken from the system, as where one is no text.
@@ -73,10 +79,12 @@ fn main(rt: HostRuntime) -> ExitCode {
     };
     let mut shelf = DiskShelf::new(&rt);
     let mut out = TerminalSink::new(&rt);
-    let status = if commands::waits(&words) {
-        run::run(&rt, rt.alloc(), &words, &mut shelf, &mut out, &OpenGate).status
-    } else {
+    let status = if !commands::waits(&words) {
         top::run_plain(rt.alloc(), &words, &mut shelf, &mut out)
+    } else if rt.stderr().is_terminal() {
+        progress::run_telling(&rt, rt.alloc(), &words, &mut shelf, out)
+    } else {
+        run::run(&rt, rt.alloc(), &words, &mut shelf, &mut out, &OpenGate).status
     };
     ExitCode::from(status.number())
 }

@@ -29,13 +29,6 @@ fn refusal(alloc: Global, status: Status, fields: &[&[u8]]) -> Stopped
     }
 }
 
-pub(crate) fn usage(alloc: Global) -> Stopped
-    ensures row { StopsWith (IsThis usage) result }
-    ensures unread { is_read_fault result ≡ false }
-{
-    refusal(alloc, Status::Usage, &[b"usage"])
-}
-
 pub(crate) fn missing(alloc: Global, name: &Word) -> Stopped
     ensures row { StopsWith (IsThis (missing name.now)) result }
     ensures unread { is_read_fault result ≡ false }
@@ -88,6 +81,13 @@ fn one_row(alloc: Global, status: Status, fields: &[&[u8]]) -> Result<Answer, St
         status,
         told: Told::Text(text),
     })
+}
+
+pub(crate) fn usage(alloc: Global) -> Result<Answer, Stopped>
+    ensures row { Computes (IsThis usage) result }
+    ensures unread { has_read_fault result ≡ false }
+{
+    one_row(alloc, Status::Usage, &[b"usage"])
 }
 
 // A row of one word and one number.

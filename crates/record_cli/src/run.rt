@@ -48,7 +48,7 @@ fn compute_waiting<S: Shelf, G: Gate, R: Wait + Threads + Sync>(
                 workers,
             },
         ) => { run_made(rt, alloc, count, seed, workers, gate) }
-        _ => Err(usage(alloc)),
+        _ => usage(alloc),
     }
 }
 

@@ -7,7 +7,7 @@ use ho_base::NoMemory;
 /// Why a command has nothing to tell of its own.
 #[derive(Drop)]
 pub(crate) enum Stopped {
-    /// Its words or one of its files are refused.
+    /// One of its files is refused.
     Refused(Row),
     /// A file could not be read.
     ReadFault,

@@ -1,8 +1,11 @@
 // Whole runs: words and files in, status and bytes out. The expected bytes are worked by hand from
 // the formats.
+mod crews;
 mod driven;
+mod dropping;
 mod judged;
 mod piped;
+mod telling;
 
 use crate::commands::waits;
 use crate::run::run;

@@ -26,7 +26,7 @@ fn compute<S: Shelf>(alloc: Global, words: &[Word], shelf: &mut S) -> Result<Ans
     match command_of(words) {
         Some(Command::Plain { pipe, file }) => plain(alloc, shelf, pipe, file),
         Some(Command::Check { script, history }) => check(alloc, shelf, script, history),
-        _ => Err(usage(alloc)),
+        _ => usage(alloc),
     }
 }
 

@@ -277,3 +277,26 @@ fn a_failed_put_of_a_run_leaves_the_front_and_shows_nothing(rt: HostRuntime) -> 
     }
     Ok(())
 }
+
+#[test]
+fn a_failed_put_of_a_run_on_made_records_leaves_the_front(rt: HostRuntime) -> Result<(), Fail> {
+    let alloc = rt.alloc();
+    let words = words_of(alloc, &[b"made", b"3", b"1", b"2"])?;
+    let want = b"counts,3,2,0,1\nsum,4818\nending,done\n".as_slice();
+    // The text has 36 bytes, so five puts of 8 bytes at most. No file is fetched, so no fetch fails.
+    for call in 0..6usize {
+        let mut shelf = failing_shelf(alloc, &[], 0)?;
+        let mut out = MemSink::new(alloc, 8);
+        out.fail_at(call as u64)?;
+        let finished = run(&rt, alloc, &words, &mut shelf, &mut out, &OpenGate);
+        let (status, joints) = if call < 5 {
+            (Status::WriteFault, None)
+        } else {
+            (Status::Done, Some(3))
+        };
+        assert_eq!(rt; finished.status, status, "at put {call}");
+        assert_eq!(rt; joints_of(&finished.shown), joints, "at put {call}");
+        assert_eq!(rt; out.taken(), &want[..(8 * call).min(36)], "at put {call}");
+    }
+    Ok(())
+}
