@@ -1,0 +1,17 @@
+pub mod Words
+pub mod Object
+pub mod Chain
+pub mod Slots
+pub mod Places
+pub mod Rule
+pub mod Rely
+pub mod Steps
+pub mod Seats
+pub mod Loads
+pub mod Tells
+pub mod Entering
+pub mod Plays
+pub mod Passes
+pub mod Looks
+pub mod Stores
+pub mod Blank

@@ -1,0 +1,77 @@
+-- What steps tell beside the view that they leave.
+use Rattle.std.specs.Prelude.{◌+◌, ◌≡◌, ◌≢◌, ℕ, ◌*◌, ◌^◌, ◌<◌, ◌≤◌, ◌&&◌, Bool, true, false, List, Some, None, slice_get, IfSome}
+use Rattle.ho_base.specs.Marks.{number_priority}
+use Rattle.ho_model.specs.declared.marks.EntryMark.{EntryMark}
+use Rattle.ho_model.specs.Enqueues.{putters_of}
+use Rattle.ho_model.specs.Tallies.{tally_of}
+use Rattle.passes.specs.Numbers.{HasNumber}
+use Rattle.passes.specs.Seen.{SeesOthers, IsLawful}
+use Rattle.seg_rule.specs.declared.word.QueueWord.{QueueWord}
+use Rattle.seg_rule.specs.declared.word.QueueWord.TheVariants.{Head, Current, First, Tail, Length, Next, Number}
+use Rattle.seg_rule.specs.declared.view.View.{View}
+use Rattle.seg_rule.specs.declared.view.Hand.{Hand}
+use Rattle.seg_rule.specs.declared.view.Hand.TheVariants.{Nothing}
+use Rattle.ho_model.specs.declared.objects.Object.{Object}
+use Rattle.ho_model.specs.declared.objects.Object.TheVariants.{Queue}
+use Rattle.seg_layout.specs.Lengths.{IsSegmentLength, longest_of, places_of}
+use Rattle.seg_rule.specs.Rule.{IsWhole}
+use Rattle.seg_rule.specs.Loads.{has_turn, is_front_slot, is_free_by}
+
+-- another word than the one noted is above it, and there is another caller
+abbrev pub IsAbove : View → ℕ → ℕ → Type 0
+IsAbove v x h = x ≢ h → (h < x) × (¬ IsWhole v)
+
+-- how many places the table has, with how many slots
+abbrev pub places_in : Object → ℕ → ℕ
+places_in (Queue room first_len) callers = places_of room first_len callers
+places_in _ callers = 0
+
+abbrev pub slots_in : Object → ℕ
+slots_in (Queue room first_len) = longest_of first_len
+slots_in _ = 0
+
+abbrev pub room_in : Object → ℕ
+room_in (Queue room first_len) = room
+room_in _ = 0
+
+abbrev pub first_len_in : Object → ℕ
+first_len_in (Queue room first_len) = first_len
+first_len_in _ = 0
+
+abbrev pub place_count : View → ℕ
+place_count v = places_in v.object v.callers
+
+abbrev pub slot_count : View → ℕ
+slot_count v = slots_in v.object
+
+-- Beside what was read before: a noted tail is at most the room above the head, and an open tail at a noted head or above; the head stands above one that it stands above by now, no word of head or tail comes near its limit, places are those of the table, and lengths fit.
+abbrev pub Told : QueueWord → ℕ → View → Type 0
+Told Head x v = IfSome v.notes.head (IsAbove v x) × IfSome v.notes.gone (λ h. h < x) × (x < 2 ^ 60) × IfSome v.notes.tail (λ o. o.position ≤ x + room_in v.object)
+Told Current x v = x < place_count v
+Told First x v = x < place_count v
+Told (Tail p) x v = IfSome v.notes.tail (λ o. o.place ≡ p → (t : ℕ) → x ≡ 2 * t → IsAbove v t o.position) × (x < 2 ^ 60) × IfSome v.notes.head (λ h. (t : ℕ) → x ≡ 2 * t → h ≤ t)
+Told (Length p) x v = IsSegmentLength (first_len_in v.object) x × (2 ≤ x) × (x ≤ slot_count v)
+Told (Next p) x v = x < place_count v
+Told _ x v = Unit {0}
+
+-- a pass with nothing in hand sees that the slot of the head, in the place where it lies, is free still
+abbrev pub is_idle : Hand → Bool
+is_idle Nothing = true
+is_idle _ = false
+
+abbrev pub sees_in_flight : QueueWord → ℕ → View → Bool
+sees_in_flight (Number p i) x v = is_idle v.hand && (is_front_slot (has_turn v.stage) p i v.notes.head v.notes.scan && is_free_by v.notes.head x)
+sees_in_flight _ x v = false
+
+-- the position was enqueued, by a caller whose number is not held, so that there is another caller, and was not taken
+pub record IsInFlight (v : View) (position : ℕ) (history : List EntryMark) : Type 0 where
+  pub putter : ℕ
+  pub enqueued : slice_get (putters_of history) position ≡ Some putter
+  pub not_taken : (tally_of history).taken ≤ position
+  pub not_held : ¬ HasNumber v.held putter
+  pub not_whole : ¬ IsWhole v
+
+-- A load leaves this view. Where it sees the position at the head in flight, the pass sees the whole history by it.
+abbrev pub Sees : Bool → View → View → Type 0
+Sees true v w = (history : List EntryMark) × SeesOthers v.held v.seen history × IsLawful number_priority v.object v.callers history × IfSome v.notes.head (λ h. IsInFlight v h history) × (w ≡ record v { seen = history; joint = None })
+Sees false v w = w ≡ v
