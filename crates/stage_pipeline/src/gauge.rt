@@ -29,7 +29,13 @@ const BACKLOG: u64 = 32;
 const FAST: u64 = 2;
 
 /// How many records a caller passes at most before it looks again.
-const STRETCH: u64 = 256;
+const STRETCH: u64 = 1_024;
+
+/// After how many looks that found the same count no more records are waited for.
+const QUIET: u32 = 4;
+
+/// For how many records a joint's first reader waits at most, while they come.
+const MUCH: u64 = 896;
 
 fn spin() {
     for _ in 0..SPINS {
@@ -170,9 +176,36 @@ impl Gauge {
         }
     }
 
+    // How many records are worth a stretch of reads.
+    fn much(&self) -> u64 {
+        (self.room - self.room / 8).min(MUCH)
+    }
+
+    // Until there are many records, or some have come and none for a while. A reader and a writer that call by
+    // turns take the joint from each other at each call; one that lets the other go on first takes it once for
+    // many.
+    fn look_for_stretch(&self) -> bool {
+        let mut before = 0;
+        let mut quiet: u32 = 0;
+        for _ in 0..LOOKS {
+            let level = self.level();
+            quiet = if level == before {
+                quiet.saturating_add(1)
+            } else {
+                0
+            };
+            before = level;
+            if self.has_ended() || level >= self.much() || (level > 0 && quiet >= QUIET) {
+                return true;
+            }
+            spin();
+        }
+        before > 0
+    }
+
     // Until there is a record, or some time is over.
     fn await_record<R: Wait>(&self, rt: &R) {
-        if !self.look(Want::Record) {
+        if !self.look_for_stretch() {
             self.sleep(rt, Want::Record, &self.reader);
         }
     }
@@ -196,7 +229,7 @@ impl Gauge {
         if self.level() < self.room {
             return;
         }
-        let want = Want::AtMost(self.room / 2);
+        let want = Want::AtMost(self.room / 8);
         if !self.look(want) {
             self.sleep(rt, want, &self.writers);
         }
@@ -213,7 +246,7 @@ impl Gauge {
     // After a read that took one.
     fn took(&self) {
         self.taken.fetch_add(1, Ordering::SeqCst);
-        if self.writers.is_wanted() && self.level() <= self.room / 2 {
+        if self.writers.is_wanted() && self.level() <= self.room / 8 {
             self.writers.ring();
         }
     }
