@@ -1,22 +1,24 @@
 // Threads that share a channel. A start line stands before their calls, so that these overlap.
-ghost use Rattle.std.specs.Prelude.{◌≡◌, ◌<◌, ◌≤◌, All, IfOk};
+ghost use Rattle.std.specs.Prelude.{◌≡◌, ◌<◌, ◌≤◌};
 
+use crate::splits::split_channel;
 use channels::{
     Channel, ChannelCall, ChannelReply, Mode, Pass, ReadReply, Reader, WriteReply, Writer,
 };
 use crossbeam_utils::Backoff;
-use races::{Countdown, StartLine, are_numbers_below, share};
+use races::{Countdown, Found, Race, are_numbers_below, gathered, share};
 use std::alloc::Global;
 use std::sync::Wait;
 use std::test::Fail;
-use std::thread;
 use std::thread::Threads;
+use std::time::Clock;
 
-/// What threads wait for before their first call, and the writers that have not ended.
+/// The channel, the writers that have not ended, and the memory for what is read.
 #[derive(Drop)]
-struct Line {
-    start: StartLine,
+struct Channelling {
+    channel: Channel<u64>,
     writers: Countdown,
+    alloc: Global,
 }
 
 #[derive(Drop)]
@@ -28,15 +30,6 @@ enum Task {
     /// So often writes a number and then reads one.
     Both(u64),
 }
-
-#[derive(Drop)]
-struct Job {
-    pass: Pass,
-    task: Task,
-}
-
-/// What a thread ends with: the numbers that it read, and whether it met what it must not.
-type Outcome = (Vec<u64>, bool);
 
 /// Writes a number once there is room. False where the channel takes no number.
 fn write_one<R: Wait>(rt: &R, writer: &mut Writer<'_, u64>, number: u64) -> bool {
@@ -51,20 +44,29 @@ fn write_one<R: Wait>(rt: &R, writer: &mut Writer<'_, u64>, number: u64) -> bool
     unreachable!()
 }
 
-/// Writes numbers, and completes the channel as the last writer. Answers whether it failed.
-fn write_all<R: Wait>(
-    rt: &R,
-    writer: &mut Writer<'_, u64>,
-    line: &Line,
-    from: u64,
-    to: u64,
-) -> bool {
+/// Writes numbers. Answers whether it failed.
+fn write_all<R: Wait>(rt: &R, writer: &mut Writer<'_, u64>, from: u64, to: u64) -> bool {
     for number in from..to {
         if !write_one(rt, writer, number) {
             return true;
         }
     }
-    line.writers.count_off() && !writer.try_complete(rt, None)
+    false
+}
+
+/// Writes a thread's numbers. The last writer to end completes the channel, also where a write failed.
+fn write_as_one_of<R: Wait>(
+    rt: &R,
+    writer: &mut Writer<'_, u64>,
+    writers: &Countdown,
+    from: u64,
+    to: u64,
+) -> bool {
+    let failed = write_all(rt, writer, from, to);
+    if writers.count_off() && !writer.try_complete(rt, None) {
+        return true;
+    }
+    failed
 }
 
 /// Reads until the channel is closed. Answers whether it failed.
@@ -107,80 +109,62 @@ fn write_and_read<R: Wait>(rt: &R, channel: &Channel<u64>, mut pass: Pass, times
     false
 }
 
-fn work<R: Wait>(rt: &R, alloc: Global, channel: &Channel<u64>, line: &Line, job: Job) -> Outcome
-    requires { job.pass.table ≡ channel.now }
-{
-    let Job { pass, task } = job;
-    line.start.start(rt);
-    let mut read = Vec::new(alloc);
-    let failed = match task {
-        Task::Write(from, to) => { write_all(rt, &mut Writer::new(channel, pass), line, from, to) }
-        Task::Read => read_all(rt, &mut Reader::new(channel, pass), &mut read),
-        Task::Both(times) => write_and_read(rt, channel, pass, times),
-    };
-    (read, failed)
-}
+impl Race for Channelling {
+    type Pass = Pass;
 
-/// A job for each task, each with a pass split off.
-fn jobs_of(
-    alloc: Global,
-    channel: &Channel<u64>,
-    pass: &mut Pass,
-    tasks: Vec<Task>,
-) -> Result<Vec<Job>, Fail>
-    requires { pass.old.table ≡ channel.now }
-    ensures { IfOk result (λ jobs. All (λ job. job.pass.table ≡ channel.now) jobs.items) }
-{
-    let mut jobs = Vec::new(alloc);
-    for task in tasks {
-        if !pass.has_spare() {
-            return Err(Fail::new("no number is left"));
-        }
-        let pass = channel.split(pass);
-        jobs.push(Job { pass, task })?;
+    type Task = Task;
+
+    type Outcome = Found;
+
+    ghost is_of = { λ race pass. pass.table ≡ race.channel };
+
+    fn split(&self, pass: &mut Pass) -> Option<Pass> {
+        split_channel(&self.channel, pass)
     }
-    Ok(jobs)
+
+    fn run<R: Wait + Clock>(&self, rt: &R, pass: Pass, task: Task) -> Found {
+        let channel = &self.channel;
+        let mut numbers = Vec::new(self.alloc);
+        let failed = match task {
+            Task::Write(from, to) => {
+                let mut writer = Writer::new(channel, pass);
+                write_as_one_of(rt, &mut writer, &self.writers, from, to)
+            }
+            Task::Read => read_all(rt, &mut Reader::new(channel, pass), &mut numbers),
+            Task::Both(times) => write_and_read(rt, channel, pass, times),
+        };
+        Found { numbers, failed }
+    }
 }
 
-/// Runs the jobs, and gathers what was read.
-fn run<R: Wait + Threads + Sync>(
+/// Runs the tasks on a new channel, each in a thread, and gathers what was read.
+fn run<R: Wait + Threads + Sync + Clock>(
     rt: &R,
     alloc: Global,
-    channel: &Channel<u64>,
-    line: &Line,
-    jobs: Vec<Job>,
-) -> Result<Vec<u64>, Fail>
-    requires { All (λ job. job.pass.table ≡ channel.now) jobs.items }
-{
-    let each = |job: Job| -> Outcome
-        requires { job.pass.table ≡ channel.now }
-    { work(rt, alloc, channel, line, job) };
-    let outcomes = thread::map_vec(rt, jobs, &each)?;
-    let mut all = Vec::new(alloc);
-    for (read, failed) in outcomes.as_slice() {
-        if *failed {
-            return Err(Fail::new("a thread met what it must not"));
-        }
-        all.extend_from_slice(read)?;
-    }
-    Ok(all)
+    capacity: u32,
+    tasks: Vec<Task>,
+    writers: u64,
+) -> Result<Vec<u64>, Fail> {
+    let (channel, pass) = Channel::bounded(alloc, capacity, Mode::Wait, 64)?;
+    let race = Channelling {
+        channel,
+        writers: Countdown::new(writers),
+        alloc,
+    };
+    let all_found = races::run(rt, alloc, &race, pass, tasks)?;
+    Ok(gathered(alloc, all_found)?)
 }
 
-/// So many writers and readers hand over numbers, each exactly once.
-fn hand_over<R: Wait + Threads + Sync>(
+/// Whether so many writers and readers hand over the numbers below `count`, each once.
+fn hands_over<R: Wait + Threads + Sync + Clock>(
     rt: &R,
     alloc: Global,
     writers: u64,
     readers: u64,
     count: u64,
 ) -> Result<bool, Fail>
-    requires { (0 < writers) × (writers ≤ 31) × (readers ≤ 31) × (count ≤ 1000000) }
+    requires { (0 < writers) × (writers ≤ 32) × (count ≤ 1000000) }
 {
-    let (channel, mut pass) = Channel::bounded(alloc, 1024, Mode::Wait, 64)?;
-    let line = Line {
-        start: StartLine::new(writers + readers),
-        writers: Countdown::new(writers),
-    };
     let mut tasks = Vec::new(alloc);
     for i in 0..writers {
         let (from, to) = share(count, writers, i);
@@ -189,32 +173,24 @@ fn hand_over<R: Wait + Threads + Sync>(
     for _ in 0..readers {
         tasks.push(Task::Read)?;
     }
-    let jobs = jobs_of(alloc, &channel, &mut pass, tasks)?;
-    let read = run(rt, alloc, &channel, &line, jobs)?;
+    let read = run(rt, alloc, 1_024, tasks, writers)?;
     Ok(are_numbers_below(read, count))
 }
 
 #[test]
 fn each_number_is_handed_over_once(rt: HostRuntime) -> Result<(), Fail> {
-    assert!(rt; hand_over(&rt, rt.alloc(), 1, 1, 100_000)?);
-    assert!(rt; hand_over(&rt, rt.alloc(), 4, 4, 100_000)?);
-    assert!(rt; hand_over(&rt, rt.alloc(), 8, 8, 100_000)?);
+    assert!(rt; hands_over(&rt, rt.alloc(), 1, 1, 100_000)?);
+    assert!(rt; hands_over(&rt, rt.alloc(), 4, 4, 100_000)?);
+    assert!(rt; hands_over(&rt, rt.alloc(), 8, 8, 100_000)?);
     Ok(())
 }
 
 #[test]
 fn who_has_written_finds_an_item(rt: HostRuntime) -> Result<(), Fail> {
-    let (channel, mut pass) = Channel::bounded(rt.alloc(), 16, Mode::Wait, 64)?;
-    let line = Line {
-        start: StartLine::new(16),
-        writers: Countdown::new(0),
-    };
     let mut tasks = Vec::new(rt.alloc());
     for _ in 0..16 {
         tasks.push(Task::Both(2_000))?;
     }
-    let jobs = jobs_of(rt.alloc(), &channel, &mut pass, tasks)?;
-    let read = run(&rt, rt.alloc(), &channel, &line, jobs)?;
-    assert!(rt; read.as_slice().is_empty());
+    assert!(rt; run(&rt, rt.alloc(), 16, tasks, 0)?.is_empty());
     Ok(())
 }

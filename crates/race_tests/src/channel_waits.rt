@@ -1,18 +1,18 @@
 // Threads that read, write and give up over one place. A start line stands before their calls, so that
 // these overlap.
-ghost use Rattle.std.specs.Prelude.{◌≡◌, ◌<◌, ◌≤◌, All, IfOk};
+ghost use Rattle.std.specs.Prelude.{◌≡◌, ◌<◌, ◌≤◌};
 
+use crate::splits::split_channel;
 use cancel_flag::{CancelSource, CancelToken, cancel_pair};
 use channel_wait::{Begun, ReadEnd, ReadWait, WriteEnd, WriteWait, read, write};
 use channels::{Channel, Mode, Pass, Reader, Writer};
 use crossbeam_utils::Backoff;
-use races::{Countdown, StartLine, are_numbers_below, nanoseconds_since, share};
+use races::{Countdown, Found, Race, are_numbers_below, gathered, nanoseconds_since, share};
 use std::alloc::Global;
 use std::sync::Wait;
 use std::test::Fail;
-use std::thread;
 use std::thread::Threads;
-use std::time::Instant;
+use std::time::{Clock, Instant};
 
 /// How long many hand-overs take at most, should other programs have the cores most of the time.
 const MOST_NANOSECONDS: u64 = 10_000_000_000;
@@ -20,11 +20,12 @@ const MOST_NANOSECONDS: u64 = 10_000_000_000;
 /// How long the token stays unset, in snoozes.
 const SNOOZES: u32 = 300;
 
-/// What threads wait for before their first call, and the writers that have not ended.
+/// The channel, the writers that have not ended, and the memory for what is read or comes back.
 #[derive(Drop)]
-struct Line {
-    start: StartLine,
+struct Waiting {
+    channel: Channel<u64>,
     writers: Countdown,
+    alloc: Global,
 }
 
 #[derive(Drop)]
@@ -46,17 +47,13 @@ enum Pace {
     Hasty,
 }
 
+/// What a thread does, and how, with the token of its calls.
 #[derive(Drop)]
 struct Job {
-    pass: Pass,
     token: CancelToken,
     pace: Pace,
     task: Task,
 }
-
-/// What a thread ends with: the numbers that it read or that came back to it, and whether it met what it
-/// must not.
-type Outcome = (Vec<u64>, bool);
 
 /// A write that is given up at once where it has to wait. None for want of memory.
 fn hasty_write<R: Wait>(
@@ -158,116 +155,101 @@ fn write_as_one_of<R: Wait>(
     rt: &R,
     writer: &mut Writer<'_, u64>,
     token: &mut CancelToken,
-    line: &Line,
+    writers: &Countdown,
     from: u64,
     to: u64,
     pace: Pace,
     back: &mut Vec<u64>,
 ) -> bool {
     let failed = write_all(rt, writer, token, from, to, pace, back);
-    if line.writers.count_off() && !writer.try_complete(rt, None) {
+    if writers.count_off() && !writer.try_complete(rt, None) {
         return true;
     }
     failed
 }
 
-fn work<R: Wait>(rt: &R, alloc: Global, channel: &Channel<u64>, line: &Line, job: Job) -> Outcome
-    requires { job.pass.table ≡ channel.now }
-{
-    let Job {
-        pass,
-        mut token,
-        pace,
-        task,
-    } = job;
-    line.start.start(rt);
-    let mut numbers = Vec::new(alloc);
-    let failed = match task {
-        Task::Write(from, to) => {
-            let mut writer = Writer::new(channel, pass);
-            write_as_one_of(
-                rt,
-                &mut writer,
-                &mut token,
-                line,
-                from,
-                to,
-                pace,
-                &mut numbers,
-            )
-        }
-        Task::Read => {
-            let mut reader = Reader::new(channel, pass);
-            read_all(rt, &mut reader, &mut token, pace, &mut numbers)
-        }
-        Task::Cancel(source) => {
-            cancel_later(rt, source);
-            false
-        }
-    };
-    (numbers, failed)
+impl Race for Waiting {
+    type Pass = Pass;
+
+    type Task = Job;
+
+    /// The numbers are those that it read or that came back to it.
+    type Outcome = Found;
+
+    ghost is_of = { λ race pass. pass.table ≡ race.channel };
+
+    fn split(&self, pass: &mut Pass) -> Option<Pass> {
+        split_channel(&self.channel, pass)
+    }
+
+    fn run<R: Wait + Clock>(&self, rt: &R, pass: Pass, job: Job) -> Found {
+        let Job {
+            mut token,
+            pace,
+            task,
+        } = job;
+        let mut numbers = Vec::new(self.alloc);
+        let failed = match task {
+            Task::Write(from, to) => {
+                let mut writer = Writer::new(&self.channel, pass);
+                write_as_one_of(
+                    rt,
+                    &mut writer,
+                    &mut token,
+                    &self.writers,
+                    from,
+                    to,
+                    pace,
+                    &mut numbers,
+                )
+            }
+            Task::Read => {
+                let mut reader = Reader::new(&self.channel, pass);
+                read_all(rt, &mut reader, &mut token, pace, &mut numbers)
+            }
+            Task::Cancel(source) => {
+                cancel_later(rt, source);
+                false
+            }
+        };
+        Found { numbers, failed }
+    }
 }
 
-/// A job for each task, each with a pass split off and a token of its own, of the first and the second in turn.
+/// A job for each task, each with a token of its own, of the first and the second in turn.
 fn jobs_of<R: Wait>(
     rt: &R,
     alloc: Global,
-    channel: &Channel<u64>,
-    pass: &mut Pass,
     tokens: &mut [CancelToken; 2],
     pace: Pace,
     tasks: Vec<Task>,
-) -> Result<Vec<Job>, Fail>
-    requires { pass.old.table ≡ channel.now }
-    ensures { IfOk result (λ jobs. All (λ job. job.pass.table ≡ channel.now) jobs.items) }
-{
+) -> Result<Vec<Job>, Fail> {
     let mut jobs = Vec::new(alloc);
     for task in tasks {
-        if !pass.has_spare() {
-            return Err(Fail::new("no number is left"));
-        }
-        let pass = channel.split(pass);
-        let Ok(token) = tokens[jobs.len() / 2 % 2].another(rt) else {
-            return Err(Fail::new("no memory"));
-        };
-        jobs.push(Job {
-            pass,
-            token,
-            pace,
-            task,
-        })?;
+        let token = tokens[jobs.len() / 2 % 2].another(rt)?;
+        jobs.push(Job { token, pace, task })?;
     }
     Ok(jobs)
 }
 
-/// Runs the jobs, and gathers the numbers that they end with.
-fn run<R: Wait + Threads + Sync>(
-    rt: &R,
-    alloc: Global,
-    channel: &Channel<u64>,
-    line: &Line,
-    jobs: Vec<Job>,
-) -> Result<Vec<u64>, Fail>
-    requires { All (λ job. job.pass.table ≡ channel.now) jobs.items }
+/// So many writers and readers of a share each, and one who sets their token.
+fn tasks_of(alloc: Global, pairs: u64, count: u64, source: CancelSource) -> Result<Vec<Task>, Fail>
+    requires { (0 < pairs) × (pairs ≤ 31) × (count ≤ 1000000) }
 {
-    let each = |job: Job| -> Outcome
-        requires { job.pass.table ≡ channel.now }
-    { work(rt, alloc, channel, line, job) };
-    let outcomes = thread::map_vec(rt, jobs, &each)?;
-    let mut all = Vec::new(alloc);
-    for (numbers, failed) in outcomes.as_slice() {
-        if *failed {
-            return Err(Fail::new("a thread met what it must not"));
-        }
-        all.extend_from_slice(numbers)?;
+    let mut tasks = Vec::new(alloc);
+    for i in 0..pairs {
+        let (from, to) = share(count, pairs, i);
+        tasks.push(Task::Write(from, to))?;
+        tasks.push(Task::Read)?;
     }
-    Ok(all)
+    tasks.push(Task::Cancel(source))?;
+    Ok(tasks)
 }
 
 /// So many writers and readers, and one who sets their token, race over one place. Whether each number
 /// was read once, or came back to its writer. Patient are all, and half of them have a token that stays
 /// unset.
-fn race<R: Wait + Threads + Sync>(
+fn race<R: Wait + Threads + Sync + Clock>(
     rt: &R,
     alloc: Global,
     pairs: u64,
@@ -276,28 +258,23 @@ fn race<R: Wait + Threads + Sync>(
 ) -> Result<bool, Fail>
     requires { (0 < pairs) × (pairs ≤ 31) × (count ≤ 1000000) }
 {
-    let (channel, mut pass) = Channel::bounded(alloc, 1, Mode::Wait, 64)?;
+    let (channel, pass) = Channel::bounded(alloc, 1, Mode::Wait, 64)?;
     let (source, mut token) = cancel_pair(alloc)?;
     let (_unset, spared) = cancel_pair(alloc)?;
-    let line = Line {
-        start: StartLine::new(2 * pairs + 1),
-        writers: Countdown::new(pairs),
-    };
-    let mut tasks = Vec::new(alloc);
-    for i in 0..pairs {
-        let (from, to) = share(count, pairs, i);
-        tasks.push(Task::Write(from, to))?;
-        tasks.push(Task::Read)?;
-    }
-    tasks.push(Task::Cancel(source))?;
     let second = match pace {
         Pace::Patient => spared,
         Pace::Hasty => token.another(rt)?,
     };
     let mut tokens = [token, second];
-    let jobs = jobs_of(rt, alloc, &channel, &mut pass, &mut tokens, pace, tasks)?;
-    let numbers = run(rt, alloc, &channel, &line, jobs)?;
-    Ok(are_numbers_below(numbers, count))
+    let tasks = tasks_of(alloc, pairs, count, source)?;
+    let jobs = jobs_of(rt, alloc, &mut tokens, pace, tasks)?;
+    let race = Waiting {
+        channel,
+        writers: Countdown::new(pairs),
+        alloc,
+    };
+    let all_found = races::run(rt, alloc, &race, pass, jobs)?;
+    Ok(are_numbers_below(gathered(alloc, all_found)?, count))
 }
 
 #[test]

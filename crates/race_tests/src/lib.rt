@@ -1,4 +1,5 @@
-//! Tests with threads that share each of the structures, and nothing else.
+//! Tests with callers that share each of the structures, most of them in threads of their own, and
+//! nothing else.
 //!
 //! They stand above all of the crates that they call, so that those are proved once and without them, and
 //! on `races` for what such tests have in common. It promises nothing upward.
@@ -14,6 +15,8 @@ mod channel_calls;
 mod channel_waits;
 #[cfg(test)]
 mod collections;
+#[cfg(test)]
+mod dropped_passes;
 #[cfg(test)]
 mod lags;
 #[cfg(test)]

@@ -1,19 +1,21 @@
 // Threads that share a queue. A start line stands before their calls, so that these overlap.
-ghost use Rattle.std.specs.Prelude.{◌≡◌, ◌<◌, ◌≤◌, All, IfOk};
+ghost use Rattle.std.specs.Prelude.{◌<◌, ◌≤◌};
 ghost use Rattle.concurrent_queue.specs.Queues.{IsOf};
 
+use crate::splits::split_queue;
 use concurrent_queue::{ConcurrentQueue, DequeueReply, EnqueueReply, QueuePass};
-use races::{Countdown, StartLine, Tally, share};
+use races::{Countdown, Race, Tally, share};
 use std::alloc::Global;
 use std::sync::Wait;
 use std::test::Fail;
 use std::thread;
 use std::thread::Threads;
+use std::time::Clock;
 
-/// What threads wait for before their first call, and how many numbers have not been dequeued.
+/// The queue, and how many numbers have not been dequeued.
 #[derive(Drop)]
-struct Line {
-    start: StartLine,
+struct Queueing {
+    queue: ConcurrentQueue,
     left: Countdown,
 }
 
@@ -25,12 +27,6 @@ enum Task {
     Dequeue,
     /// So often enqueues a number and then dequeues one.
     Both(u64),
-}
-
-#[derive(Drop)]
-struct Job {
-    pass: QueuePass,
-    task: Task,
 }
 
 /// What a thread dequeued. None where it met what it must not.
@@ -58,17 +54,22 @@ fn enqueue_all<R: Wait>(rt: &R, queue: &ConcurrentQueue, mut pass: QueuePass, fr
     }
 }
 
-fn dequeue_all<R: Wait>(rt: &R, queue: &ConcurrentQueue, mut pass: QueuePass, line: &Line) -> Tally
+fn dequeue_all<R: Wait>(
+    rt: &R,
+    queue: &ConcurrentQueue,
+    mut pass: QueuePass,
+    left: &Countdown,
+) -> Tally
     requires { IsOf queue.now pass }
 {
     let mut tally = Tally::default();
     for _ in rt.forever() {
-        if line.left.is_over() {
+        if left.is_over() {
             return tally;
         }
         match queue.dequeue(rt, &mut pass) {
             (DequeueReply::Item(number), _) => {
-                line.left.count_off();
+                left.count_off();
                 tally = tally.with(number);
             }
             (DequeueReply::Empty, _) => thread::yield_now(),
@@ -105,76 +106,52 @@ fn enqueue_and_dequeue<R: Wait>(
     Some(tally)
 }
 
-fn work<R: Wait>(rt: &R, queue: &ConcurrentQueue, line: &Line, job: Job) -> Outcome
-    requires { IsOf queue.now job.pass }
-{
-    let Job { pass, task } = job;
-    line.start.start(rt);
-    match task {
-        Task::Enqueue(from, to) => {
-            enqueue_all(rt, queue, pass, from, to);
-            Some(Tally::default())
-        }
-        Task::Dequeue => Some(dequeue_all(rt, queue, pass, line)),
-        Task::Both(times) => enqueue_and_dequeue(rt, queue, pass, times),
-    }
-}
+impl Race for Queueing {
+    type Pass = QueuePass;
 
-/// A job for each task, each with a pass split off.
-fn jobs_of(
-    alloc: Global,
-    queue: &ConcurrentQueue,
-    pass: &mut QueuePass,
-    tasks: Vec<Task>,
-) -> Result<Vec<Job>, Fail>
-    requires { IsOf queue.now pass.old }
-    ensures { IfOk result (λ jobs. All (λ job. IsOf queue.now job.pass) jobs.items) }
-{
-    let mut jobs = Vec::new(alloc);
-    for task in tasks {
-        if pass.spare() == 0 {
-            return Err(Fail::new("no number is left"));
-        }
-        let pass = queue.split(pass);
-        jobs.push(Job { pass, task })?;
-    }
-    Ok(jobs)
-}
+    type Task = Task;
 
-/// What all threads together dequeued.
-fn total(outcomes: &[Outcome]) -> Outcome {
-    let mut all = Tally::default();
-    for outcome in outcomes {
-        all = all.and((*outcome)?);
+    type Outcome = Outcome;
+
+    ghost is_of = { λ race pass. IsOf race.queue pass };
+
+    fn split(&self, pass: &mut QueuePass) -> Option<QueuePass> {
+        split_queue(&self.queue, pass)
     }
-    Some(all)
+
+    fn run<R: Wait + Clock>(&self, rt: &R, pass: QueuePass, task: Task) -> Outcome {
+        match task {
+            Task::Enqueue(from, to) => {
+                enqueue_all(rt, &self.queue, pass, from, to);
+                Some(Tally::default())
+            }
+            Task::Dequeue => Some(dequeue_all(rt, &self.queue, pass, &self.left)),
+            Task::Both(times) => enqueue_and_dequeue(rt, &self.queue, pass, times),
+        }
+    }
 }
 
 /// Runs the tasks on a new queue, each in a thread, until so many numbers are dequeued.
-fn run<R: Wait + Threads + Sync>(
+fn run<R: Wait + Threads + Sync + Clock>(
     rt: &R,
     alloc: Global,
     room: u32,
     tasks: Vec<Task>,
     numbers: u64,
 ) -> Result<Outcome, Fail> {
-    let Ok((queue, mut pass)) = ConcurrentQueue::new(alloc, room, 2, 64) else {
+    let Ok((queue, pass)) = ConcurrentQueue::new(alloc, room, 2, 64) else {
         return Err(Fail::new("no queue"));
     };
-    let line = Line {
-        start: StartLine::new(tasks.len() as u64),
+    let race = Queueing {
+        queue,
         left: Countdown::new(numbers),
     };
-    let jobs = jobs_of(alloc, &queue, &mut pass, tasks)?;
-    let each = |job: Job| -> Outcome
-        requires { IsOf queue job.pass }
-    { work(rt, &queue, &line, job) };
-    let outcomes = thread::map_vec(rt, jobs, &each)?;
-    Ok(total(outcomes.as_slice()))
+    let outcomes = races::run(rt, alloc, &race, pass, tasks)?;
+    Ok(Tally::of_all(outcomes.as_slice()))
 }
 
 /// Whether enqueuers and dequeuers hand over the numbers below 20,000, each once.
-fn hands_over<R: Wait + Threads + Sync>(
+fn hands_over<R: Wait + Threads + Sync + Clock>(
     rt: &R,
     alloc: Global,
     room: u32,

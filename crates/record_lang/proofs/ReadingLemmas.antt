@@ -10,7 +10,6 @@ use Rattle.record_lang.specs.declared.causes.Cause.{Cause}
 use Rattle.record_lang.specs.declared.lines.LineFault.{LineFault}
 use Rattle.record_lang.specs.declared.lines.LineFault.TheVariants as line_fault
 use Rattle.record_lang.specs.declared.parsing.SpecFault.{SpecFault}
-use Rattle.record_lang.specs.declared.parsing.SpecFault.TheVariants.{Refused, NoMemory}
 
 -- with a first line
 reading_from-first : (place : ℕ) (before : SoFar) (first left text : List ℕ) (told : Result SoFar Cause) → IsFirstLine first left text → with_text before first ≡ told → reading_from place before (lines text) ≡ and_then (at_place place told) (λ after. reading_from (place + 1) after (lines left))

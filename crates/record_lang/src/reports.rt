@@ -44,22 +44,14 @@ impl Report {
     pub fn new(alloc: Global) -> Report
         ensures { result ≡ record { outcomes = []; has_drops = false; dropped = [] } }
     {
-        Report {
-            outcomes: Vec::new(alloc),
-            has_drops: false,
-            dropped: Vec::new(alloc),
-        }
+        Report::of(alloc, Vec::new(alloc))
     }
 
     /// Of a run with a joint that may drop. It tells nothing yet, and takes no memory.
     pub fn with_drops(alloc: Global) -> Report
         ensures { result ≡ record { outcomes = []; has_drops = true; dropped = [] } }
     {
-        Report {
-            outcomes: Vec::new(alloc),
-            has_drops: true,
-            dropped: Vec::new(alloc),
-        }
+        Report::of_drops(Vec::new(alloc), Vec::new(alloc))
     }
 
     /// Of a run without joints that may drop, with these outcomes. The list is taken as it is, and no memory

@@ -342,6 +342,36 @@ fn a_report_by_hand(rt: HostRuntime) -> Result<(), Fail> {
     Ok(())
 }
 
+// The outcomes of records 0 and 2.
+fn two_outcomes(alloc: Global) -> Result<Vec<Outcome>, NoMemory> {
+    let mut outcomes = Vec::new(alloc);
+    outcomes.push(Outcome::Filtered { number: 0 })?;
+    outcomes.push(Outcome::Refused {
+        number: 2,
+        stage: 1,
+        cause: 3,
+    })?;
+    Ok(outcomes)
+}
+
+#[test]
+fn a_report_of_lists(rt: HostRuntime) -> Result<(), Fail> {
+    let alloc = rt.alloc();
+    let text = Report::of(alloc, two_outcomes(alloc)?).text(alloc, None)?;
+    let want = b"refused,2,1,3\ncounts,2,0,1,1\nending,done\n";
+    assert_eq!(rt; text.bytes(), want.as_slice());
+    let dropped = vec![in alloc;
+        Dropped {
+            number: 1,
+            joint: 2
+        },
+    ]?;
+    let text = Report::of_drops(two_outcomes(alloc)?, dropped).text(alloc, None)?;
+    let want = b"refused,2,1,3\ndropped,1,2\ncounts,3,0,1,1,1\nending,done\n";
+    assert_eq!(rt; text.bytes(), want.as_slice());
+    Ok(())
+}
+
 // The pipeline `keep 0 ge 500`, `add 0 5`, `mul 0 3`, with a guard.
 fn pipeline_by_hand(alloc: Global) -> Result<Pipeline, Fail> {
     let mut stages = Stages::new(alloc);

@@ -3,7 +3,7 @@ ghost use Rattle.std.specs.Prelude.{◌≡◌, [], true};
 ghost use Rattle.stage_pipeline.specs.Crews.{FeederEnds, Feeds, IsNewAt};
 ghost use Rattle.stage_pipeline.specs.Works.{KeepsPlace};
 
-use crate::gauge::Gauge;
+use crate::gauge::Outlet;
 use crate::kits::{Feed, FeederEnd};
 use crate::shared::SharedJoint;
 use crate::sides::{complete, joint_of};
@@ -18,7 +18,7 @@ fn write_all<R: Wait>(
     rt: &R,
     rows: Vec<Record>,
     writer: &mut Writer<'_, Record>,
-    to: &Gauge,
+    to: &mut Outlet<'_>,
     lost: &mut Vec<u64>,
     may: bool,
 ) -> bool
@@ -55,8 +55,9 @@ pub(crate) fn feed_all<R: Wait>(
     let FedRows { rows, code } = fed;
     let joint = joint_of(joints, 0, &write);
     let mut writer = Writer::new(joint.channel(), write);
+    let mut to = Outlet::new(joint.gauge());
     let mut lost = Vec::new(alloc);
-    let whole = write_all(rt, rows, &mut writer, joint.gauge(), &mut lost, may);
+    let whole = write_all(rt, rows, &mut writer, &mut to, &mut lost, may);
     FeederEnd {
         write: complete(rt, joint, writer.into_pass(), code),
         lost,

@@ -28,8 +28,14 @@ const BACKLOG: u64 = 32;
 /// only stand in each other's way. Counted are the records of a nap in two microseconds.
 const FAST: u64 = 2;
 
-/// How many records it reads before it naps again.
-const READS: u32 = 256;
+/// How many records a caller passes at most before it looks again.
+const STRETCH: u64 = 1_024;
+
+/// After how many looks that found the same count no more records are waited for.
+const QUIET: u32 = 4;
+
+/// For how many records a joint's first reader waits at most, while they come.
+const MUCH: u64 = 896;
 
 fn spin() {
     for _ in 0..SPINS {
@@ -170,25 +176,38 @@ impl Gauge {
         }
     }
 
-    /// Before a read of a crew's first worker: until there is a record, or some time is over.
-    pub(crate) fn await_record<R: Wait>(&self, rt: &R) {
-        if !self.is_small() && !self.look(Want::Record) {
-            self.sleep(rt, Want::Record, &self.reader);
-        }
+    // How many records are worth a stretch of reads.
+    fn much(&self) -> u64 {
+        (self.room - self.room / 8).min(MUCH)
     }
 
-    /// Before a read of a further worker, which may read so many records yet without a nap: until records
-    /// stay in the joint, or some time is over.
-    pub(crate) fn await_backlog<R: Wait>(&self, rt: &R, reads: &mut u32) {
-        if self.is_small() || self.has_ended() {
-            return;
+    // Until there are many records, or some have come and none for a while. A reader and a writer that call by
+    // turns take the joint from each other at each call; one that lets the other go on first takes it once for
+    // many.
+    fn look_for_stretch(&self) -> bool {
+        let mut before = 0;
+        let mut quiet: u32 = 0;
+        for _ in 0..LOOKS {
+            let level = self.level();
+            quiet = if level == before {
+                quiet.saturating_add(1)
+            } else {
+                0
+            };
+            before = level;
+            if self.has_ended() || level >= self.much() || (level > 0 && quiet >= QUIET) {
+                return true;
+            }
+            spin();
         }
-        if *reads > 0 && self.has_backlog() {
-            *reads -= 1;
-            return;
+        before > 0
+    }
+
+    // Until there is a record, or some time is over.
+    fn await_record<R: Wait>(&self, rt: &R) {
+        if !self.look_for_stretch() {
+            self.sleep(rt, Want::Record, &self.reader);
         }
-        self.nap(rt);
-        *reads = READS;
     }
 
     fn nap<R: Wait>(&self, rt: &R) {
@@ -205,29 +224,29 @@ impl Gauge {
         }
     }
 
-    /// Before a write: until there is room, or some time is over. Who finds none waits for much.
-    pub(crate) fn await_room<R: Wait>(&self, rt: &R) {
-        if self.is_small() || self.level() < self.room {
+    // Until there is room, or some time is over. Who finds none waits for much.
+    fn await_room<R: Wait>(&self, rt: &R) {
+        if self.level() < self.room {
             return;
         }
-        let want = Want::AtMost(self.room / 2);
+        let want = Want::AtMost(self.room / 8);
         if !self.look(want) {
             self.sleep(rt, want, &self.writers);
         }
     }
 
-    /// After a write that brought a record more.
-    pub(crate) fn wrote(&self) {
+    // After a write that brought a record more.
+    fn wrote(&self) {
         self.written.fetch_add(1, Ordering::SeqCst);
         if self.reader.is_wanted() {
             self.reader.ring();
         }
     }
 
-    /// After a read that took one.
-    pub(crate) fn took(&self) {
+    // After a read that took one.
+    fn took(&self) {
         self.taken.fetch_add(1, Ordering::SeqCst);
-        if self.writers.is_wanted() && self.level() <= self.room / 2 {
+        if self.writers.is_wanted() && self.level() <= self.room / 8 {
             self.writers.ring();
         }
     }
@@ -237,5 +256,96 @@ impl Gauge {
         self.ended.store(1, Ordering::SeqCst);
         self.ended.wake_all();
         self.reader.ring();
+    }
+}
+
+/// A joint's gauge, as a worker reads it that reads the joint. It looks once for as many records as it finds:
+/// each look takes the count away from the writers.
+#[derive(Drop)]
+pub(crate) struct Inlet<'g> {
+    gauge: &'g Gauge,
+    /// It is the first worker of its crew.
+    is_first: bool,
+    /// How many records it reads yet before it looks again.
+    left: u64,
+}
+
+impl<'g> Inlet<'g> {
+    pub(crate) fn new(gauge: &'g Gauge, is_first: bool) -> Inlet<'g> {
+        Inlet {
+            gauge,
+            is_first,
+            left: 0,
+        }
+    }
+
+    /// Before a read: for the first worker until there is a record, for a further one until records stay in
+    /// the joint, or until some time is over.
+    pub(crate) fn await_record<R: Wait>(&mut self, rt: &R) {
+        if self.gauge.is_small() {
+            return;
+        }
+        if self.is_first {
+            self.await_one(rt);
+        } else {
+            self.await_backlog(rt);
+        }
+    }
+
+    fn await_one<R: Wait>(&mut self, rt: &R) {
+        if self.left == 0 {
+            self.gauge.await_record(rt);
+            self.left = self.gauge.level().clamp(1, STRETCH);
+        }
+        self.left = self.left.saturating_sub(1);
+    }
+
+    fn await_backlog<R: Wait>(&mut self, rt: &R) {
+        if self.gauge.has_ended() {
+            return;
+        }
+        if self.left > 0 && self.gauge.has_backlog() {
+            self.left -= 1;
+            return;
+        }
+        self.gauge.nap(rt);
+        self.left = STRETCH;
+    }
+
+    /// After a read that took a record.
+    pub(crate) fn took(&self) {
+        self.gauge.took();
+    }
+}
+
+/// A joint's gauge, as a writer of the joint reads it. It looks once for as many records as there is room for.
+#[derive(Drop)]
+pub(crate) struct Outlet<'g> {
+    gauge: &'g Gauge,
+    /// How many records it writes yet before it looks again.
+    left: u64,
+}
+
+impl<'g> Outlet<'g> {
+    pub(crate) fn new(gauge: &'g Gauge) -> Outlet<'g> {
+        Outlet { gauge, left: 0 }
+    }
+
+    /// Before a write: until there is room, or some time is over.
+    pub(crate) fn await_room<R: Wait>(&mut self, rt: &R) {
+        if self.gauge.is_small() {
+            return;
+        }
+        if self.left == 0 {
+            self.gauge.await_room(rt);
+            let room = self.gauge.room.saturating_sub(self.gauge.level());
+            self.left = room.clamp(1, STRETCH);
+        }
+        self.left = self.left.saturating_sub(1);
+    }
+
+    /// After a write that brought a record more.
+    pub(crate) fn wrote(&self) {
+        self.gauge.wrote();
     }
 }

@@ -1,5 +1,5 @@
 // The texts of runs.
-ghost use Rattle.std.specs.Prelude.{◌≡◌, if◌then◌else◌, [], IfOk, List, ℕ};
+ghost use Rattle.std.specs.Prelude.{◌≡◌, if◌then◌else◌, [], IfOk, OnOk, List, ℕ};
 ghost use Rattle.std.specs.List.Sorted.{IsNonDecreasingBy, IsPermutation, IsSortedBy};
 ghost use Rattle.joint_reports.specs.Reports.{has_drop_joint, may_drop};
 ghost use Rattle.record_lang.specs.Guards.{stop_code};
@@ -31,11 +31,14 @@ fn has_drop_joint(pipeline: &Pipeline) -> bool
     pipeline.joints().iter().any(|joint| may_drop(*joint))
 }
 
-fn sort_outcomes(outcomes: &mut Vec<Outcome>)
+// The workers' lists rise in long stretches, as records mostly come in order. Those this sort keeps, and merges
+// them: in place, each outcome would be moved many times.
+fn sort_outcomes(outcomes: &mut Vec<Outcome>) -> Result<(), NoMemory>
     ensures moved { IsPermutation outcomes.old.items outcomes.new.items }
-    ensures sorted { IsNonDecreasingBy number_of_outcome outcomes.new.items }
+    ensures sorted { OnOk result (IsNonDecreasingBy number_of_outcome outcomes.new.items) }
 {
-    outcomes.sort_unstable_by_key(|outcome| outcome.number());
+    outcomes.sort_by_key(|outcome| outcome.number())?;
+    Ok(())
 }
 
 fn sort_dropped(dropped: &mut Vec<Dropped>)
@@ -77,7 +80,7 @@ pub(crate) fn ran_of(
         mut outcomes,
         mut dropped,
     } = done;
-    sort_outcomes(&mut outcomes);
+    sort_outcomes(&mut outcomes)?;
     sort_dropped(&mut dropped);
     let report = report_of(alloc, has_drop_joint(pipeline), outcomes, dropped);
     let text = report.text(alloc, code)?;

@@ -5,7 +5,7 @@ ghost use Rattle.turn_lock.specs.Passes.{LockPass};
 ghost use Rattle.stage_pipeline.specs.Crews.{IsNewAtTo};
 ghost use Rattle.stage_pipeline.specs.Seats.{AreOfTo, IsOfTo, IsSeat, JoinsTo, SeatEnds, SplitsSeat, SplitsTo, TakesIn, IsToldFault};
 
-use crate::gauge::Gauge;
+use crate::gauge::{Gauge, Inlet, Outlet};
 use crate::shared::SharedJoint;
 use crate::sides::joint_of;
 use crate::workers::{Job, WorkerEnd, work};
@@ -99,9 +99,8 @@ fn work_at<G: Gate, R: Wait>(
     let job = Job {
         stage,
         number,
-        is_first,
-        from: joint.gauge(),
-        to: gauge_at(joints, stage, joint.gauge()),
+        from: Inlet::new(joint.gauge(), is_first),
+        to: Outlet::new(gauge_at(joints, stage, joint.gauge())),
         reader: Reader::new(joint.channel(), read),
         writer: writer_of(joints, stage, write),
     };

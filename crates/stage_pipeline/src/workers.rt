@@ -9,7 +9,7 @@ ghost use Rattle.record_lang.specs.declared.pipelines.Stage.{Stage};
 ghost use Rattle.joint_reports.specs.Through.{says};
 ghost use Rattle.stage_pipeline.specs.Works.{IfEnded, IfMore, IsNewTo, KeepsPlace, KeepsPlaceTo, PassesOn, Sends, WorksOff, counts};
 
-use crate::gauge::Gauge;
+use crate::gauge::{Inlet, Outlet};
 use channel_wait::{ReadEnd, WriteEnd, read_without_token, write_without_token};
 use channels::{ReadReply, Reader, Writer};
 use ho_base::{Fault, Item};
@@ -25,11 +25,9 @@ pub(crate) struct Job<'c> {
     pub(crate) stage: u32,
     /// Its number at the gate.
     pub(crate) number: u32,
-    /// It is the first worker of its crew.
-    pub(crate) is_first: bool,
     /// How full its joint is, and the next one.
-    pub(crate) from: &'c Gauge,
-    pub(crate) to: &'c Gauge,
+    pub(crate) from: Inlet<'c>,
+    pub(crate) to: Outlet<'c>,
     pub(crate) reader: Reader<'c, Record>,
     pub(crate) writer: Option<Writer<'c, Record>>,
 }
@@ -65,11 +63,8 @@ struct Turns<'g, G: Gate> {
     gate: &'g G,
     worker: u32,
     turn: u64,
-    is_first: bool,
-    /// How many records it reads yet, as a further worker, before it naps.
-    reads: u32,
-    from: &'g Gauge,
-    to: &'g Gauge,
+    from: Inlet<'g>,
+    to: Outlet<'g>,
 }
 
 impl<'g, G: Gate> Turns<'g, G> {
@@ -78,15 +73,6 @@ impl<'g, G: Gate> Turns<'g, G> {
         self.gate.at(rt, self.worker, self.turn);
         self.turn = self.turn.saturating_add(1);
     }
-
-    // Looks whether there is something to read.
-    fn await_record<R: Wait>(&mut self, rt: &R) {
-        if self.is_first {
-            self.from.await_record(rt);
-        } else {
-            self.from.await_backlog(rt, &mut self.reads);
-        }
-    }
 }
 
 // Writes a record, and keeps the number of one that was dropped.
@@ -94,7 +80,7 @@ impl<'g, G: Gate> Turns<'g, G> {
 pub(crate) fn send<R: Wait>(
     rt: &R,
     writer: &mut Writer<'_, Record>,
-    to: &Gauge,
+    to: &mut Outlet<'_>,
     row: Record,
     lost: &mut Vec<u64>,
 ) -> Turn
@@ -149,7 +135,7 @@ fn pass_on<G: Gate, R: Wait>(
     match outcome {
         Outcome::Result(row) => {
             turns.next(rt);
-            send(rt, to, turns.to, row, lost)
+            send(rt, to, &mut turns.to, row, lost)
         }
         Outcome::Refused {
             number,
@@ -197,7 +183,7 @@ fn take_one<G: Gate, R: Wait>(
         × (0 < counts (is_closed_with (fault_number fault)) desk.new.reader)) }
 {
     turns.next(rt);
-    turns.await_record(rt);
+    turns.from.await_record(rt);
     let row = match read_without_token(rt, &mut desk.reader) {
         Ok(ReadEnd::Item(row)) => row,
         Ok(ReadEnd::Closed(fault)) => return Turn::Ended(fault),
@@ -298,7 +284,6 @@ pub(crate) fn work<'c, G: Gate, R: Wait>(
     let Job {
         stage,
         number,
-        is_first,
         from,
         to,
         reader,
@@ -308,8 +293,6 @@ pub(crate) fn work<'c, G: Gate, R: Wait>(
         gate,
         worker: number,
         turn: 0,
-        is_first,
-        reads: 0,
         from,
         to,
     };

@@ -1,6 +1,0 @@
-use Rattle.std.proofs.Common.{◌≡◌}
-use Rattle.std.specs.Prelude.{All}
-use Rattle.race_tests.proofs.channel_calls.jobs_of.Given as goal
-
-abbrev pub invariant-loop-task : goal.invariant-loop-task
-invariant-loop-task l = (l.pass.table ≡ l.channel) × All (λ job. job.pass.table ≡ l.channel) l.jobs.items
