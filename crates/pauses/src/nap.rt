@@ -32,7 +32,7 @@ pub struct Nap {
 impl Nap {
     /// The pauses of a wait that stands in the object. The place of its begin was noted.
     pub fn of_wait(want: Want) -> Nap {
-        Nap::new(want, true, Pause::of_wait())
+        Nap::new(want, true, Pause::new())
     }
 
     /// The pauses of a call that tries again and again. The object knows nothing of it.

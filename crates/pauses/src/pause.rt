@@ -1,20 +1,11 @@
 // Pauses that end by time.
-use std::hint;
 use std::sync::Wait;
-use std::sync::atomic::AtomicU64;
+use std::sync::atomic::{AtomicU64, Ordering};
 use std::time::Duration;
 
-/// How many spins the first pause of a call has that found the turn taken. Even that lasts as long as
-/// several turns. Meanwhile who has the turn can make call after call with the words and the machine in
-/// the cache of its own core.
-const SPINS_OF_TURN: u32 = 64;
-
-/// How many spins the first pause has of a caller that tries again and again.
-const SPINS_OF_TRIES: u32 = 256;
-
-/// How many spins the first pause of a wait has that stands in an object. Each of its polls is an entry,
-/// so it pauses for longer.
-const SPINS_OF_WAIT: u32 = 384;
+/// How many spins the first pause has. It lasts as long as many turns of a lock, so that meanwhile who has the
+/// turn can make call after call with the words and the machine in the cache of its own core.
+const FIRST_SPINS: u32 = 256;
 
 /// A pause of at least so many spins is a longest one.
 const MOST_SPINS: u32 = 2_048;
@@ -32,53 +23,41 @@ const LONGEST: u64 = 1_000;
 /// Pauses that double up to a longest, then short sleeps, and then sleeps that double up to a longest.
 /// It takes no memory.
 ///
+/// A spin is an addition to a word of its own, which takes some 20 cycles on every processor. The processor's
+/// own pause takes 10 to 140, so that pauses of as many would last ten times as long on one as on another.
+///
 /// A thread that sleeps gets its core back soon after. One that yields it to other programs may wait
 /// for a whole turn of theirs, which is a thousand times as long.
 #[derive(Drop)]
 pub struct Pause {
-    /// How many spins the first pause has.
-    first: u32,
-    /// How many the next one has.
+    /// How many spins the next pause has.
     spins: u32,
     /// A longest pause is over.
     spun: bool,
     sleeps: u32,
     /// How many microseconds the next sleep has.
     moment: u64,
+    /// What it spins on.
+    beats: AtomicU64,
     /// What the thread sleeps on. Nobody else knows it, so nothing but the time ends a sleep.
     word: AtomicU64,
 }
 
 impl Pause {
-    /// The pauses of a caller that tries again and again.
     pub fn new() -> Pause {
-        Pause::from_spins(SPINS_OF_TRIES)
-    }
-
-    /// The pauses of a wait that stands in an object.
-    pub fn of_wait() -> Pause {
-        Pause::from_spins(SPINS_OF_WAIT)
-    }
-
-    /// The pauses of a call that waits for the turn.
-    pub fn of_turn() -> Pause {
-        Pause::from_spins(SPINS_OF_TURN)
-    }
-
-    fn from_spins(first: u32) -> Pause {
         Pause {
-            first,
-            spins: first,
+            spins: FIRST_SPINS,
             spun: false,
             sleeps: 0,
             moment: MOMENT,
+            beats: AtomicU64::new(0),
             word: AtomicU64::new(0),
         }
     }
 
     /// Begins anew with the first pause.
     pub fn reset(&mut self) {
-        self.spins = self.first;
+        self.spins = FIRST_SPINS;
         self.spun = false;
         self.sleeps = 0;
         self.moment = MOMENT;
@@ -92,7 +71,7 @@ impl Pause {
     /// Spins through the next pause, and sleeps in none. True where it was a longest one.
     pub fn spin(&mut self) -> bool {
         for _ in 0..self.spins {
-            hint::spin_loop();
+            self.beats.fetch_add(1, Ordering::SeqCst);
         }
         if self.spins >= MOST_SPINS {
             return true;

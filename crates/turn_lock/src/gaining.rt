@@ -48,7 +48,7 @@ fn compete<M: Stepper, R: Wait>(rt: &R, board: &Board<M>, seat: &mut Seat<M>) ->
     ensures now { Got M.priority (StandsFor M.priority M.object M.callers M.state M.steps M.tally)
         (counted seat.old.me.0) seat.old.me.1 result seat.new.me }
 {
-    let mut pause = Pause::of_turn();
+    let mut pause = Pause::new();
     for _ in 0..TRIES {
         await_free(rt, board, &mut pause);
         let serving = look(board, seat);
@@ -104,7 +104,7 @@ fn wait_for<M: Stepper, R: Wait>(rt: &R, board: &Board<M>, seat: &mut Seat<M>, t
         (StandsFor M.priority M.object M.callers M.state M.steps M.tally) seat.old.me.0
         seat.old.me.1 turn seat.new.me }
 {
-    let mut pause = Pause::of_turn();
+    let mut pause = Pause::new();
     for _ in rt.forever() {
         let serving = reach(board, seat, turn);
         if serving == turn {
