@@ -50,6 +50,7 @@ impl<T: Item> BagTable<T> {
             (others : List EntryMark) × (seat.new.me ≡ (entered seat.old.me.0 others e, seat.old.me.1))
             × Makes T.priority_of seat.old.me.0 others e result }
     {
+        // for the proof: its clauses name the caller
         let _ = caller;
         event_quiet::<T, Brand, Snapshot<T>>(&self.table.shared, seat, said) / EVENT
     }
@@ -75,18 +76,26 @@ impl<T: Item> BagTable<T> {
 
     /// Take event: the entry of a take of the first item of another list, while the own list is kept
     /// too and has no item. Returns its place.
-    pub fn steal_event(&self, seat: &mut Seat<T>, list: usize, said: &Snapshot<T>) -> u64
+    pub fn steal_event(
+        &self,
+        seat: &mut Seat<T>,
+        list: usize,
+        caller: u32,
+        said: &Snapshot<T>,
+    ) -> u64
         requires table { IsFor self.now seat.old }
         requires may { MayEnter seat.old.me.0 }
-        requires own { hand_at seat.old.me.0 seat.old.me.0.caller ≡ Kept [] }
+        requires own { (seat.old.me.0.caller ≡ caller) × (hand_at seat.old.me.0 caller ≡ Kept []) }
         requires list { (items : List Mark) × (hand_at seat.old.me.0 list ≡ Kept items)
             × (0 < length items) × (first_item items ≡ T.mark said.now.value) × (length items ≤ 16383) }
         ensures same { IsSame seat.old seat.new }
-        ensures made { let e = entry seat.old.me.0.caller Take (ItemFrom (T.mark said.now.value) list) in
+        ensures made { let e = entry caller Take (ItemFrom (T.mark said.now.value) list) in
             (others : List EntryMark) × (seat.new.me ≡ (changed seat.old.me.0 others e list
             (drop 1 (kept_at seat.old.me.0 list)), seat.old.me.1))
             × Makes T.priority_of seat.old.me.0 others e result }
     {
+        // for the proof: its clauses name the caller
+        let _ = caller;
         event_change::<T, Brand>(&self.table.shared, seat, list, said, EVENT - 1) / EVENT
     }
 

@@ -25,9 +25,11 @@ use std::marker::{Brand, Model};
 #[derive(Drop)]
 pub struct BagTable<T: Item> {
     pub(crate) table: Table<ItemList<T>, View, u64, BagRule<T>, Global>,
+    callers: u32,
 }
 
 impl<T: Item> Model for BagTable<T> {
+    ghost use Rattle.std.specs.Prelude.{◌≡◌};
     ghost use Rattle.atomic_table.specs.Seated.{TableId, table_id_coded};
 
     ghost Value = { TableId };
@@ -35,6 +37,8 @@ impl<T: Item> Model for BagTable<T> {
     ghost coded = { table_id_coded };
 
     ghost view = { λ b. b.table.shared.table_id };
+
+    ghost invariant = { λ b. b.callers ≡ b.table.shared.table_id.slots };
 }
 
 /// So many lists without items.
@@ -59,9 +63,16 @@ impl<T: Item> BagTable<T> {
         let words = Vec::from_elem(alloc, 0u64, count)?;
         let lists = bare_lists(alloc, callers as usize)?;
         match Table::new(alloc, words.as_slice(), lists, &(callers as u64)) {
-            Ok((table, seat)) => Ok((BagTable { table }, seat)),
+            Ok((table, seat)) => Ok((BagTable { table, callers }, seat)),
             Err(_) => Err(NoMemory),
         }
+    }
+
+    /// How many callers the bag has, each with a list.
+    pub fn callers(&self) -> u32
+        ensures { result ≡ self.now.slots }
+    {
+        self.callers
     }
 
     /// Takes a list, if nobody holds it. Answers whether it did.

@@ -1,0 +1,5 @@
+pub mod Hands
+pub mod Lifts
+pub mod Adding
+pub mod Searching
+pub mod Settling

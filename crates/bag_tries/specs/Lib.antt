@@ -1,0 +1,4 @@
+pub mod Causes
+pub mod Seats
+pub mod Adds
+pub mod Takes
