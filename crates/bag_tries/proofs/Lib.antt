@@ -3,3 +3,5 @@ pub mod Lifts
 pub mod Adding
 pub mod Searching
 pub mod Settling
+pub mod Ends
+pub mod Gathering

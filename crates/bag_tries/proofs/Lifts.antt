@@ -8,18 +8,9 @@ use Rattle.passes.specs.Seen.{AreOthers, IsLawful}
 use Rattle.bag_rule.specs.declared.view.View.{View}
 use Rattle.bag_rule.specs.declared.view.Obstacle.{Obstacle}
 use Rattle.bag_rule.specs.Plays.{Sits, Makes, SeesLaw}
-use Rattle.bag_tries.specs.Seats.{IsBack, MadeEntry, MadeNone}
+use Rattle.bag_tries.specs.Seats.{IsBack, HasRead, MadeEntry, MadeNone}
 
--- the same pass, which has read this and made no entry
-pub record Later (v w : View) (first : List Obstacle) : Type 0 where
-  pub callers : w.callers ≡ v.callers
-  pub caller : w.caller ≡ v.caller
-  pub held : w.held ≡ v.held
-  pub seen : w.seen ≡ v.seen
-  pub made : w.made ≡ v.made
-  pub met : w.met ≡ v.met ++ first
-
-module _ (pr : Mark → ℕ) (v w : View) (first : List Obstacle) (later : Later v w first) (m : Sits) where
+module _ (pr : Mark → ℕ) (v w : View) (first : List Obstacle) (later : HasRead v w first) (m : Sits) where
   lift_back : IsBack w m → IsBack v m
   lift_back b = record { idle = b.idle; callers = b.callers ∙ later.callers; caller = b.caller ∙ later.caller; held = b.held ∙ later.held }
 
@@ -42,3 +33,14 @@ module _ (pr : Mark → ℕ) (v w : View) (first : List Obstacle) (later : Later
     read = first ++ n.read;
     met = lift_met n.read n.met;
   }
+
+-- one reading after another
+pub read_on : (v w u : View) (first second : List Obstacle) → HasRead v w first → HasRead w u second → HasRead v u (first ++ second)
+read_on v w u first second a b = record {
+  callers = b.callers ∙ a.callers;
+  caller = b.caller ∙ a.caller;
+  held = b.held ∙ a.held;
+  seen = b.seen ∙ a.seen;
+  made = b.made ∙ a.made;
+  met = b.met ∙ (ap (λ (z : List Obstacle). z ++ second) a.met ∙ append_assoc v.met first second);
+}

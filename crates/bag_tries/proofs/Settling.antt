@@ -20,12 +20,12 @@ use Rattle.bag_rule.specs.Plays.{Sits, Shows, Makes, SeesAll, SeesLaw, Begins, L
 use Rattle.bag_rule.specs.Seats.{front_of}
 use Rattle.bag_rule.proofs.Words.{rest_of}
 use Rattle.bag_tries.specs.Causes.{SkipsAList, MissesAnEvent, WasTried, IsOther}
-use Rattle.bag_tries.specs.Seats.{IsIdle, HasOwnBare, IsBack, MadeEntry, MadeNone}
+use Rattle.bag_tries.specs.Seats.{IsIdle, HasOwnBare, IsBack, HasRead, MadeEntry, MadeNone}
 use Rattle.bag_tries.specs.Takes.{wandered, robbed, Went, FindsEmpty, Settles, GoesRound, TryTakes, Steals, bare_entry, item_entry}
 use Rattle.bag_tries.specs.declared.takes.TakeTry.{TakeTry}
 use Rattle.bag_tries.specs.declared.takes.TakeTry.TheVariants as tries
 use Rattle.bag_tries.proofs.Hands.{none_back, own_kept}
-use Rattle.bag_tries.proofs.Lifts.{Later, lift_none, lift_entry, lift_law}
+use Rattle.bag_tries.proofs.Lifts.{lift_none, lift_entry, lift_law}
 use Rattle.bag_tries.proofs.Searching.{tried_more, last_read, steps_behind}
 
 -- the own list, without an item, is given back
@@ -84,14 +84,14 @@ pub some_items : (word events items : ℕ) → Shows word events items → word 
 some_items word events items s ne = let e = rest_of word events items s in omega arith
 
 -- a seat that has looked again, or has begun, is the same one later
-looked_later : (v w : View) (events items : ℕ) → w ≡ looked_again v events items → Later v w (Event events items ∷ [])
-looked_later v w events items is = subst (λ (z : View). Later v z (Event events items ∷ [])) (sym is) record { callers = refl; caller = refl; held = refl; seen = refl; made = refl; met = refl }
+looked_later : (v w : View) (events items : ℕ) → w ≡ looked_again v events items → HasRead v w (Event events items ∷ [])
+looked_later v w events items is = subst (λ (z : View). HasRead v z (Event events items ∷ [])) (sym is) record { callers = refl; caller = refl; held = refl; seen = refl; made = refl; met = refl }
 
-pub began_later : (v w : View) (events items : ℕ) → w ≡ began v events items → Later v w (Event events items ∷ [])
-began_later v w events items is = subst (λ (z : View). Later v z (Event events items ∷ [])) (sym is) record { callers = refl; caller = refl; held = refl; seen = refl; made = refl; met = refl }
+pub began_later : (v w : View) (events items : ℕ) → w ≡ began v events items → HasRead v w (Event events items ∷ [])
+began_later v w events items is = subst (λ (z : View). HasRead v z (Event events items ∷ [])) (sym is) record { callers = refl; caller = refl; held = refl; seen = refl; made = refl; met = refl }
 
-went_later : (c : ℕ) (v w : View) (n k : ℕ) (skipped : Bool) (g : Went c v w n k skipped) → Later v w g.read
-went_later c v w n k skipped g = subst (λ (z : View). Later v z g.read) (sym g.is) record { callers = refl; caller = refl; held = refl; seen = refl; made = refl; met = refl }
+went_later : (c : ℕ) (v w : View) (n k : ℕ) (skipped : Bool) (g : Went c v w n k skipped) → HasRead v w g.read
+went_later c v w n k skipped g = subst (λ (z : View). HasRead v z g.read) (sym g.is) record { callers = refl; caller = refl; held = refl; seen = refl; made = refl; met = refl }
 
 module _ {T : Type 0} (pr : Mark → ℕ) (mark : T → Mark) (c : ℕ) where
   -- the event word showed no items at the second load
@@ -128,7 +128,7 @@ module _ {T : Type 0} (pr : Mark → ℕ) (mark : T → Mark) (c : ℕ) where
     abbrev first : List Obstacle
     first = Event events items ∷ g.read
 
-    later : Later v w first
+    later : HasRead v w first
     later = let x = began_later v b events items is in let y = went_later c b w n n skipped g in record {
       callers = y.callers ∙ x.callers;
       caller = y.caller ∙ x.caller;
@@ -202,7 +202,7 @@ bare_round c b w n g callers low kept d lt = dite (ℕ_discrete d c)
         inl (ap (λ (z : View). get_or z.bare d false) g.is ∙ (ap (λ (z : ℕ). get_or g.bare z false) (sym j.3) ∙ g.all_bare refl j.0 j.1 j.2)))
 
 -- what a call that began with the own list in hand, without an item, comes to
-module _ {T : Type 0} (pr : Mark → ℕ) (mark : T → Mark) (c : ℕ) (v w : View) (later : Later v w (Bare c ∷ [])) (m : Sits) where
+module _ {T : Type 0} (pr : Mark → ℕ) (mark : T → Mark) (c : ℕ) (v w : View) (later : HasRead v w (Bare c ∷ [])) (m : Sits) where
   behind : (read : List Obstacle) (o : Obstacle) → Contains read o → Contains (Bare c ∷ read) o
   behind read o k = Contains-append_right (Bare c ∷ []) read o k
 
@@ -235,7 +235,7 @@ module _ {T : Type 0} (pr : Mark → ℕ) (mark : T → Mark) (c : ℕ) (v w : V
   goes_take tries.Lost k = (Bare c ∷ k.0, lift_none pr v w (Bare c ∷ []) later m k.0 k.1, misses_before k.0 k.2)
 
 -- a list that was got without an item
-pub got_later : (pr : Mark → ℕ) (m : Sits) (c : ℕ) (t : Sits) → GotList pr m.0 m.1 c t → front_of t.1 ≡ [] → Later m.0 t.0 (Bare c ∷ [])
+pub got_later : (pr : Mark → ℕ) (m : Sits) (c : ℕ) (t : Sits) → GotList pr m.0 m.1 c t → front_of t.1 ≡ [] → HasRead m.0 t.0 (Bare c ∷ [])
 got_later pr m c t got bare =
     let none : got.0 ≡ [] = sym (ap (λ (z : Sits). front_of z.1) got.1) ∙ bare in
-    subst (λ (z : View). Later m.0 z (Bare c ∷ [])) (sym (ap (λ (z : Sits). z.0) got.1 ∙ ap (took_list m.0 c) none)) record { callers = refl; caller = refl; held = refl; seen = refl; made = refl; met = refl }
+    subst (λ (z : View). HasRead m.0 z (Bare c ∷ [])) (sym (ap (λ (z : Sits). z.0) got.1 ∙ ap (took_list m.0 c) none)) record { callers = refl; caller = refl; held = refl; seen = refl; made = refl; met = refl }

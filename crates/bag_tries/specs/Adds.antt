@@ -39,3 +39,8 @@ module _ {T : Type 0} (priority : Mark → ℕ) (mark : T → Mark) (c : ℕ) wh
   TryAdds v item m (Full place back) = (back ≡ item) × MadeEntry priority v (full_entry item) place m
   TryAdds v item m (Held back) = (back ≡ item) × (read : List Obstacle) × MadeNone priority v read m × OwnIsHeld v.callers c v.held read
   TryAdds v item m (NoMemory back) = (back ≡ item) × (read : List Obstacle) × MadeNone priority v read m
+
+-- the own list was free
+abbrev pub IsAddEnd : {T : Type 0} → AddTry T → Type 0
+IsAddEnd (Held back) = ⊥
+IsAddEnd _ = Unit {0}

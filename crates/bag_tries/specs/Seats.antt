@@ -24,6 +24,15 @@ pub record IsBack (v : View) (m : Sits) : Type 0 where
   pub caller : m.0.caller ≡ v.caller
   pub held : m.0.held ≡ v.held
 
+-- it has read this more, and made no entry
+pub record HasRead (v w : View) (read : List Obstacle) : Type 0 where
+  pub callers : w.callers ≡ v.callers
+  pub caller : w.caller ≡ v.caller
+  pub held : w.held ≡ v.held
+  pub seen : w.seen ≡ v.seen
+  pub made : w.made ≡ v.made
+  pub met : w.met ≡ v.met ++ read
+
 module _ (priority : Mark → ℕ) (v : View) where
   -- it made one entry, which has this place
   pub record MadeEntry (e : EntryMark) (place : ℕ) (m : Sits) : Type 0 where

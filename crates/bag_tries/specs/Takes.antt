@@ -110,3 +110,9 @@ module _ {T : Type 0} (priority : Mark → ℕ) (mark : T → Mark) (c : ℕ) wh
   TryTakes v m (tries.Empty place) = MadeEntry priority v bare_entry place m
   TryTakes v m tries.Held = (read : List Obstacle) × MadeNone priority v read m × TakeIsHeld v.callers c v.held read
   TryTakes v m tries.Lost = (read : List Obstacle) × MadeNone priority v read m × MissesAnEvent v.callers c v.held read
+
+-- the call made its entry
+abbrev pub IsTakeEnd : {T : Type 0} → TakeTry T → Type 0
+IsTakeEnd tries.Held = ⊥
+IsTakeEnd tries.Lost = ⊥
+IsTakeEnd _ = Unit {0}
