@@ -18,18 +18,27 @@
 //! refusal adds entries of others alone.
 #![tactic(auto)]
 
+mod answers;
 mod bag;
 mod calls;
+mod lasting;
 mod machine;
+mod once;
 mod pass;
+mod turn_bag;
+mod turn_pass;
 
 // what the calls name of the crates below, so that a client lists none of these
-pub use bag::{BagAdd, BagTake, ConcurrentBag};
+pub use answers::{BagAdd, BagAddOnce, BagAgain, BagTake, BagTakeOnce};
+pub use bag::ConcurrentBag;
+pub use bag_rule::Obstacle;
 pub use calls::{BagCall, BagReply};
 pub use ho_base::{Item, Marked, NoMemory, Receipt, Unpaid};
 pub use ho_model::Items;
 pub use machine::BagMachine;
 pub use pass::BagPass;
+pub use turn_bag::TurnBag;
+pub use turn_pass::TurnPass;
 
 #[cfg(test)]
 mod tests;
