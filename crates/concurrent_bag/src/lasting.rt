@@ -8,9 +8,9 @@ ghost use Rattle.concurrent_bag.specs.Answers.{Adds, Snaps, take_mark};
 ghost use Rattle.concurrent_bag.specs.Seats.{view_of, IsPass};
 
 use crate::answers::{BagAdd, BagTake};
-use crate::once::seat_of;
+use crate::once::{is_spent, seat_of};
 use atomic_table::Badge;
-use bag_rule::{BagTable, MOST_CALLS, Seat, View};
+use bag_rule::{BagTable, Seat, View};
 use bag_tries::{AddTry, TakeTry};
 use ho_base::{Item, NoMemory, Receipt, Unpaid};
 use ho_model::Items;
@@ -23,7 +23,7 @@ use std::sync::Wait;
 fn await_a_call<R: Wait>(rt: &R, numbers: &Numbers)
     ensures { slice_index numbers.now.made numbers.now.caller < 2 ^ 37 }
 {
-    if numbers.is_spent(MOST_CALLS) {
+    if is_spent(numbers) {
         let mut pause = Pause::of_wait();
         for _ in rt.forever() {
             pause.take(rt);

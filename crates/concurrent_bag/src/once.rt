@@ -1,5 +1,5 @@
 // One try of each call, on the fields of a pass.
-ghost use Rattle.std.specs.Prelude.{◌≡◌, ◌<◌, ℕ, [], ◌∷◌};
+ghost use Rattle.std.specs.Prelude.{◌≡◌, ◌<◌, ◌≤◌, ◌^◌, ◌↔◌, [], ◌∷◌, IsTrue, slice_index};
 ghost use Rattle.passes.specs.Numbers.{held_count};
 ghost use Rattle.passes.specs.Calls.{Splits, Joins};
 ghost use Rattle.bag_rule.specs.declared.view.View.{View};
@@ -24,6 +24,13 @@ pub(crate) fn seat_of<T: Item>(badge: &mut Badge<View>) -> Seat<T>
     mem::replace(badge, Badge::blank()).into_seat()
 }
 
+/// Whether the caller has made as many calls as it may.
+pub(crate) fn is_spent(numbers: &Numbers) -> bool
+    ensures { IsTrue result ↔ (2 ^ 37 ≤ slice_index numbers.now.made numbers.now.caller) }
+{
+    numbers.is_spent(MOST_CALLS)
+}
+
 /// Tries an add once.
 pub(crate) fn add<T: Item>(
     table: &BagTable<T>,
@@ -37,7 +44,7 @@ pub(crate) fn add<T: Item>(
     ensures told { AddsOnce T.priority_of T.mark (view_of badge.old) (view_of badge.new) item result }
 {
     let caller = numbers.caller();
-    let is_spent = numbers.is_spent(MOST_CALLS);
+    let is_spent = is_spent(numbers);
     let mut seat = seat_of(badge);
     if is_spent {
         // for the proof: a load tells that what the pass has seen is legal
@@ -73,7 +80,7 @@ pub(crate) fn take<T: Item>(
     ensures told { TakesOnce T.priority_of T.mark (view_of badge.old) (view_of badge.new) result }
 {
     let caller = numbers.caller();
-    let is_spent = numbers.is_spent(MOST_CALLS);
+    let is_spent = is_spent(numbers);
     let mut seat = seat_of(badge);
     if is_spent {
         // for the proof: a load tells that what the pass has seen is legal
