@@ -1,5 +1,5 @@
 -- An entry keeps the rule, whatever lists of its seat it changes.
-use Rattle.std.proofs.Common.{◌≡◌, ◌≢◌, ℕ, suc, ◌+◌, ◌%◌, ◌^◌, ◌*◌, ◌<◌, ◌≤◌, ◌⊎◌, List, [], ◌∷◌, ◌++◌, length, get_or, set, sym, refl, ap, ◌∙◌, subst, inl, inr, ⊎_elim, arith, length-set, get_or-set_other, get_or-set_same, length-append, Some}
+use Rattle.std.proofs.Common.{◌≡◌, ◌≢◌, ℕ, ◌+◌, ◌%◌, ◌^◌, ◌<◌, ◌≤◌, ◌⊎◌, List, [], ◌∷◌, ◌++◌, length, get_or, set, sym, refl, ap, ◌∙◌, subst, inl, inr, ⊎_elim, arith, length-set, get_or-set_other, get_or-set_same, length-append, Some}
 use Rattle.std.specs.Prelude.{None}
 use Rattle.std.proofs.Math.Nat.{mod-eq_of_lt}
 use mathlib.Core.Logic.{dite}
@@ -22,12 +22,11 @@ use Rattle.passes.proofs.Seats.{seats_stay, some_seat}
 use Rattle.passes.proofs.Seen.{below_more}
 use Rattle.passes.proofs.Holders.{holder_enters, holder_counts, others_count, others_enter}
 use Rattle.bag_rule.specs.declared.view.View.{View}
-use Rattle.bag_rule.specs.declared.view.Joint.{Joint}
 use Rattle.bag_rule.specs.declared.view.Hand.{Hand}
 use Rattle.bag_rule.specs.declared.view.Hand.TheVariants.{Away, Kept}
 use Rattle.bag_rule.specs.Words.{event_word}
 use Rattle.bag_rule.specs.Views.{hand_at, IsKept, changed, Does}
-use Rattle.bag_rule.specs.Rule.{Lain, Has, Knows, Names, AtHome, IsOut, Stands, JointFact}
+use Rattle.bag_rule.specs.Rule.{Lain, Knows, Names, AtHome, IsOut, Stands, JointFact}
 use Rattle.bag_rule.specs.Plays.{Sits, Shows, Enters, changes}
 use Rattle.bag_rule.proofs.Lists.{items_set, by_hand, is_kept, kept_is, not_away, one_hand, hand_here, hand_else}
 use Rattle.bag_rule.proofs.Words.{words_event}
@@ -149,8 +148,10 @@ module _ (pr : Mark → ℕ) (n : ℕ) where
   kept_set : (v : View) (lists : Lists) (d : ℕ) (xs xs' : List Mark) → d < length v.keeps → d < length lists → hand_at v d ≡ Kept xs → ((c : ℕ) (ys : List Mark) → hand_at v c ≡ Kept ys → list_of lists c ≡ ys)
       → (c : ℕ) (ys : List Mark) → get_or (set v.keeps d (Kept xs')) c Away ≡ Kept ys → IsKept (hand_at v c) × (list_of (set lists d xs') c ≡ ys)
   kept_set v lists d xs xs' room inside is all c ys e = dite (ℕ_discrete c d)
-      (λ (eq : c ≡ d). (is_kept (hand_at v c) xs (ap (hand_at v) eq ∙ is),
-          ap (list_of (set lists d xs')) eq ∙ (get_or-set_same lists d xs' [] inside ∙ one_hand xs' ys (sym (hand_here v.keeps d (Kept xs') room) ∙ (ap (λ (z : ℕ). get_or (set v.keeps d (Kept xs')) z Away) (sym eq) ∙ e)))))
+      (λ (eq : c ≡ d). (
+        is_kept (hand_at v c) xs (ap (hand_at v) eq ∙ is),
+        ap (list_of (set lists d xs')) eq ∙ (get_or-set_same lists d xs' [] inside ∙ one_hand xs' ys (sym (hand_here v.keeps d (Kept xs') room) ∙ (ap (λ (z : ℕ). get_or (set v.keeps d (Kept xs')) z Away) (sym eq) ∙ e))),
+      ))
       (λ ne. let was : hand_at v c ≡ Kept ys = sym (hand_else v.keeps d (Kept xs') c ne) ∙ e in (is_kept (hand_at v c) ys was, get_or-set_other lists d c xs' [] ne ∙ all c ys was))
 
   still_set : (v : View) (d : ℕ) (xs' : List Mark) → d < length v.keeps → (c : ℕ) → IsKept (hand_at v c) → IsKept (get_or (set v.keeps d (Kept xs')) c Away)
@@ -178,7 +179,7 @@ module _ (pr : Mark → ℕ) (n : ℕ) where
       let low : event_word (length r.log) r.lists + add < 2 ^ 64 = omega arith in
       let does' = does r.lists (agrees pr n s r id v at) in
       let frame : (c : ℕ) → hand_at v c ≡ Away → list_of lists' c ≡ list_of r.lists c =
-          λ c away. get_or-set_other r.lists d c xs' [] (λ (eq : c ≡ d). not_away (hand_at v c) (is_kept (hand_at v c) xs (ap (hand_at v) eq ∙ is)) away) in
+      λ c away. get_or-set_other r.lists d c xs' [] (λ (eq : c ≡ d). not_away (hand_at v c) (is_kept (hand_at v c) xs (ap (hand_at v) eq ∙ is)) away) in
       let short' : (c : ℕ) → length (list_of lists' c) ≤ 16383 = λ c. within_set r.lists d xs' inside short r.within c in
       let kept = kept_set v r.lists d xs xs' room inside is (λ c ys z. (k.keeps c ys z).3) in
       let still = still_set v d xs' room in
@@ -186,7 +187,10 @@ module _ (pr : Mark → ℕ) (n : ℕ) where
       let wide = length-set v.keeps d (Kept xs') ∙ k.wide in
       let body = event_kept s r id v at e own active below lists' does' long short' (set v.keeps d (Kept xs')) wide frame kept still idle in
       let told = event_enters s r id v at e own active below lists' does' long short' (set v.keeps d (Kept xs')) wide frame kept still in
-      subst (λ (z : ℕ). (w : View) × (a : Act (List Mark)) × Valid s.homes m.1 a × Stands pr n (stepped s 0 ((z + add) % 2 ^ 64) id m.1 w a) × changes pr e d xs' (step slots 0 add 0 none) m z (w, carried_after m.1 a)) (sym r.words.0)
-      (changed v k.holder.behind.0 e d xs', keeps, tt,
+      subst (λ (z : ℕ). (w : View) × (a : Act (List Mark)) × Valid s.homes m.1 a × Stands pr n (stepped s 0 ((z + add) % 2 ^ 64) id m.1 w a) × changes pr e d xs' (step slots 0 add 0 none) m z (w, carried_after m.1 a)) (sym r.words.0) (
+        changed v k.holder.behind.0 e d xs',
+        keeps,
+        tt,
         subst (λ (z : ℕ). Stands pr n record { words = set s.words 0 z; homes = s.homes; views = set s.views id (changed v k.holder.behind.0 e d xs') }) (sym (mod-eq_of_lt low ∙ sum')) body,
-        (k.holder.behind.0, refl, told))
+        (k.holder.behind.0, refl, told),
+      )

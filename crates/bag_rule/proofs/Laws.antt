@@ -1,12 +1,10 @@
 -- What the rule says at any time, and steps that change no word.
-use Rattle.std.proofs.Common.{◌≡◌, ◌≢◌, ℕ, ◌+◌, ◌*◌, ◌^◌, ◌<◌, ◌≤◌, ◌⊎◌, inl, inr, ⊎_elim, List, [], length, get_or, set, sym, refl, ap, ◌∙◌, subst, arith}
-use Rattle.std.specs.Prelude.{None}
-use mathlib.Core.Option.{some, none}
+use Rattle.std.proofs.Common.{◌≡◌, ℕ, ◌^◌, ◌<◌, ◌≤◌, inl, inr, ⊎_elim, List, length, get_or, set, sym, refl, ap, subst, arith}
+use mathlib.Core.Option.{some}
 use lib.ListN.{get_elem?}
 use lib.Seq.{set-get_or}
 use Rattle.atomic_table.specs.Table.{Act, keeps, stepped, Valid, carried_after}
 use Rattle.ho_base.specs.Marks.{Mark}
-use Rattle.ho_model.specs.declared.marks.EntryMark.{EntryMark}
 use Rattle.ho_model.specs.declared.objects.Object.TheVariants.{Bag}
 use Rattle.ho_model.specs.Bag.{item_count}
 use Rattle.ho_model.specs.Objects.{BagState}
@@ -17,7 +15,7 @@ use Rattle.passes.proofs.Seen.{whole_sees, lawful_seen}
 use Rattle.bag_rule.specs.declared.view.View.{View}
 use Rattle.bag_rule.specs.Words.{event_word}
 use Rattle.bag_rule.specs.Views.{Agrees}
-use Rattle.bag_rule.specs.Rule.{Lain, Knows, Names, AtHome, IsOut, Stands}
+use Rattle.bag_rule.specs.Rule.{Lain, Knows, Names, IsOut, Stands}
 use Rattle.bag_rule.specs.Plays.{Sits, Shows, SeesAll, SeesLaw}
 use Rattle.bag_rule.proofs.Lists.{items_bound}
 
@@ -77,6 +75,10 @@ module _ (pr : Mark → ℕ) (n : ℕ) (s : Lain) (r : Stands pr n s) where
     -- the same, as a load of the event word
     pub load_at : (carried : List (ℕ × List Mark)) (then : ℕ → Sits → Type 0) (w : View) → Stands pr n record { words = s.words; homes = s.homes; views = set s.views id w } → then word (w, carried)
         → (w : View) × (a : Act (List Mark)) × Valid s.homes carried a × Stands pr n (stepped s 0 (get_or s.words 0 0) id carried w a) × then (get_or s.words 0 0) (w, carried_after carried a)
-    load_at carried then w kept told = (w, keeps, tt,
-        subst (λ (ws : List ℕ). Stands pr n record { words = ws; homes = s.homes; views = set s.views id w }) (sym (set-get_or s.words 0 0)) kept,
-        subst (λ (z : ℕ). then z (w, carried)) (sym r.words.0) told)
+    load_at carried then w kept told = (
+      w,
+      keeps,
+      tt,
+      subst (λ (ws : List ℕ). Stands pr n record { words = ws; homes = s.homes; views = set s.views id w }) (sym (set-get_or s.words 0 0)) kept,
+      subst (λ (z : ℕ). then z (w, carried)) (sym r.words.0) told,
+    )

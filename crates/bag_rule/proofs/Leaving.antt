@@ -53,14 +53,16 @@ module _ (pr : Mark → ℕ) (n : ℕ) where
 
     gave_place : (d : ℕ) → d < n → AtHome s r.lists r.locks d ⊎ IsOut s r.locks r.keeper d → AtHome after r.lists locks' d ⊎ IsOut after locks' r.keeper d
     gave_place d lt p = dite (ℕ_discrete d c)
-        (λ (is : d ≡ c). inl (ap (λ (z : ℕ). get_or locks' z 0) is ∙ lock_here,
-            ap (get_elem? (set s.homes c (some items))) is ∙ (set_here s.homes c (some items) (subst (λ (z : ℕ). c < z) (sym r.wide.2) has.0) ∙ ap (λ (z : List Mark). some (some z)) (sym has.3 ∙ ap (list_of r.lists) (sym is)))))
+        (λ (is : d ≡ c). inl (
+          ap (λ (z : ℕ). get_or locks' z 0) is ∙ lock_here,
+          ap (get_elem? (set s.homes c (some items))) is ∙ (set_here s.homes c (some items) (subst (λ (z : ℕ). c < z) (sym r.wide.2) has.0) ∙ ap (λ (z : List Mark). some (some z)) (sym has.3 ∙ ap (list_of r.lists) (sym is))),
+        ))
         (λ (ne : d ≢ c). ⊎_elim
-            (λ (h : AtHome s r.lists r.locks d). inl (lock_else d ne ∙ h.0, set_else s.homes c d (some items) ne ∙ h.1))
-            (λ (h : IsOut s r.locks r.keeper d).
-                let y = some_seat (Names r.locks d) s.views id (r.keeper d) v gave at (λ o. (o.0, subst IsKept (sym (hand_else v.keeps c Away d ne)) o.1)) h in
-                inr (y.0, y.1, (lock_else d ne ∙ y.2.0, y.2.1)))
-            p)
+        (λ (h : AtHome s r.lists r.locks d). inl (lock_else d ne ∙ h.0, set_else s.homes c d (some items) ne ∙ h.1))
+        (λ (h : IsOut s r.locks r.keeper d).
+        let y = some_seat (Names r.locks d) s.views id (r.keeper d) v gave at (λ o. (o.0, subst IsKept (sym (hand_else v.keeps c Away d ne)) o.1)) h in
+        inr (y.0, y.1, (lock_else d ne ∙ y.2.0, y.2.1)))
+        p)
 
     gave_keeps : (d : ℕ) (ys : List Mark) → hand_at gave d ≡ Kept ys → Has n locks' r.lists r.keeper id gave d ys
     gave_keeps d ys e = dite (ℕ_discrete d c)
@@ -118,7 +120,10 @@ module _ (pr : Mark → ℕ) (n : ℕ) where
 
   pub list_leaves : (slots id c : ℕ) (m : Sits) (items : List Mark) (more : List (ℕ × List Mark)) → hand_at m.0 c ≡ Kept items → m.1 ≡ (c, items) ∷ more
       → Allows (Stands pr n) slots id m (list_word c) (λ _. 0) (λ _. left c (step slots (list_word c) 0 0 none) m 0)
-  list_leaves slots id c m items more kept carried s r _ at _ =
-      (left_list m.0 c, gives, tt,
-        subst (λ (z : List (ℕ × List Mark)). Stands pr n record { words = set s.words (list_word c) 0; homes = put_back s.homes z; views = set s.views id (left_list m.0 c) }) (sym carried) (gave_kept s r id c m.0 at items kept),
-        refl)
+  list_leaves slots id c m items more kept carried s r _ at _ = (
+    left_list m.0 c,
+    gives,
+    tt,
+    subst (λ (z : List (ℕ × List Mark)). Stands pr n record { words = set s.words (list_word c) 0; homes = put_back s.homes z; views = set s.views id (left_list m.0 c) }) (sym carried) (gave_kept s r id c m.0 at items kept),
+    refl,
+  )

@@ -1,5 +1,5 @@
 -- What the bag does with each entry.
-use Rattle.std.proofs.Common.{◌≡◌, ◌≢◌, ℕ, suc, ◌+◌, ◌-◌, ◌<◌, ◌≤◌, ◌&&◌, eqb, cond, List, [], ◌∷◌, ◌++◌, length, set, take, drop, Bool, true, false, sym, refl, ap, ◌∙◌, subst, arith, eq-eqb, Some, None, Option, length-append}
+use Rattle.std.proofs.Common.{◌≡◌, ℕ, ◌-◌, ◌<◌, ◌&&◌, eqb, cond, List, [], ◌∷◌, ◌++◌, length, set, take, drop, Bool, true, refl, ap, ◌∙◌, eq-eqb, Some, None}
 use Rattle.std.specs.Prelude.{nat_lt}
 use Rattle.std.proofs.lemmas.Bool.{lt-ltb}
 use Rattle.std.proofs.lemmas.Slice.Eq.{bytes_eq-Decides}
@@ -9,15 +9,14 @@ use Rattle.ho_model.specs.declared.marks.ReplyMark.TheVariants.{Done, Full, Item
 use Rattle.ho_model.specs.declared.marks.EntryMark.{EntryMark}
 use Rattle.ho_model.specs.declared.objects.Object.TheVariants.{Bag}
 use Rattle.ho_model.specs.Entries.{entry, same_mark}
-use Rattle.ho_model.specs.Answers.{accepted}
 use Rattle.ho_model.specs.Queue.{has_item, first_item}
 use Rattle.ho_model.specs.Bag.{Lists, list_of, last_item, item_count, all_numbers, added, bag_step, without_last, without_first, with_last}
-use Rattle.ho_model.specs.Objects.{BagState, object_step, stepped}
+use Rattle.ho_model.specs.Objects.{BagState, object_step}
 use Rattle.ho_model.proofs.Replies.{accepted_self, entry_of_caller}
 use Rattle.std.specs.Option.{option_map}
 use Rattle.bag_rule.specs.declared.view.View.{View}
 use Rattle.bag_rule.specs.declared.view.Hand.TheVariants.{Kept}
-use Rattle.bag_rule.specs.Views.{hand_at, Agrees, Does, Leaves}
+use Rattle.bag_rule.specs.Views.{hand_at, Does, Leaves}
 
 -- an entry that the bag takes is one of the object
 pub bag_enters : (priority : Mark → ℕ) (lists lists' : Lists) (e : EntryMark) → e.caller < 64 → bag_step lists e.caller e.call e.reply ≡ Some lists' → object_step priority Bag (BagState lists) e ≡ Some (BagState lists')

@@ -1,5 +1,5 @@
 -- Entries that change no list.
-use Rattle.std.proofs.Common.{◌≡◌, ◌≢◌, ℕ, ◌+◌, ◌%◌, ◌^◌, ◌*◌, ◌<◌, ◌≤◌, eqb, List, [], ◌∷◌, ◌++◌, length, get_or, set, sym, refl, ap, ◌∙◌, subst, arith, length-append, Some}
+use Rattle.std.proofs.Common.{◌≡◌, ◌≢◌, ℕ, ◌+◌, ◌%◌, ◌^◌, ◌*◌, ◌<◌, eqb, List, [], ◌∷◌, ◌++◌, length, get_or, set, sym, refl, ap, ◌∙◌, subst, arith, length-append, Some}
 use Rattle.std.specs.Prelude.{None}
 use Rattle.std.proofs.Math.Nat.{mod-eq_of_lt}
 use mathlib.Core.Option.{some, none}
@@ -44,10 +44,13 @@ module _ (pr : Mark → ℕ) (n : ℕ) where
     quiet_added : (then : ℕ → Sits → Type 0) → then (word pr n s r) (entered m.0 k.holder.behind.0 e, m.1)
         → (w : View) × (a : Act (List Mark)) × Valid s.homes m.1 a × Stands pr n (stepped s 0 ((get_or s.words 0 0 + 1048576) % 2 ^ 64) id m.1 w a) × then (get_or s.words 0 0) (w, carried_after m.1 a)
     quiet_added then told =
-        subst (λ (z : ℕ). (w : View) × (a : Act (List Mark)) × Valid s.homes m.1 a × Stands pr n (stepped s 0 ((z + 1048576) % 2 ^ 64) id m.1 w a) × then z (w, carried_after m.1 a)) (sym r.words.0)
-        (entered m.0 k.holder.behind.0 e, keeps, tt,
+        subst (λ (z : ℕ). (w : View) × (a : Act (List Mark)) × Valid s.homes m.1 a × Stands pr n (stepped s 0 ((z + 1048576) % 2 ^ 64) id m.1 w a) × then z (w, carried_after m.1 a)) (sym r.words.0) (
+          entered m.0 k.holder.behind.0 e,
+          keeps,
+          tt,
           subst (λ (z : ℕ). Stands pr n record { words = set s.words 0 z; homes = s.homes; views = set s.views id (entered m.0 k.holder.behind.0 e) }) (sym (mod-eq_of_lt low ∙ sum)) quiet_kept,
-          told)
+          told,
+        )
 
     -- by an exchange
     quiet_exchanged : Stands pr n record { words = set s.words 0 (event_word (length r.log) r.lists + 1048576); homes = s.homes; views = set s.views id (entered m.0 k.holder.behind.0 e) }
@@ -65,9 +68,13 @@ module _ (pr : Mark → ℕ) (n : ℕ) where
       let e : EntryMark = count_entry m.0 (item_count r.lists) in
       let d = count_does r.lists m.0.caller in
       let k = r.knows id m.0 at in
-      quiet_added s r id m at idle active below e refl d (counts pr (step slots 0 1048576 0 none) m)
-          (k.holder.behind.0, item_count r.lists, refl, quiet_enters s r id m at idle active below e refl d,
-            subst (λ (z : ℕ). Shows (word pr n s r) z (item_count r.lists)) (ap length k.holder.behind.1) (shows pr n s r))
+      quiet_added s r id m at idle active below e refl d (counts pr (step slots 0 1048576 0 none) m) (
+        k.holder.behind.0,
+        item_count r.lists,
+        refl,
+        quiet_enters s r id m at idle active below e refl d,
+        subst (λ (z : ℕ). Shows (word pr n s r) z (item_count r.lists)) (ap length k.holder.behind.1) (shows pr n s r),
+      )
 
   -- an exchange from a word that showed no items
   module _ (s : Lain) (r : Stands pr n s) (id old : ℕ) (m : Sits) (at : get_elem? s.views id ≡ some m.0) (idle : m.0.joint ≡ None) (active : HasNumber m.0.held m.0.caller) (below : get_or m.0.made m.0.caller 0 < 2 ^ 37)
@@ -85,33 +92,39 @@ module _ (pr : Mark → ℕ) (n : ℕ) where
         let bare : item_count r.lists ≡ 0 = omega arith in
         let d = empty_does r.lists m.0.caller bare in
         let e : EntryMark = empty_entry m.0 in
-        let o = (r.knows id m.0 at).holder.behind.0 in
-        (entered m.0 o e, keeps, tt,
+        let o = (r.knows id m.0 at).holder.behind.0 in (
+          entered m.0 o e,
+          keeps,
+          tt,
           subst (λ (z : ℕ). Stands pr n record { words = set s.words 0 (z + 1048576); homes = s.homes; views = set s.views id (entered m.0 o e) }) is (quiet_exchanged s r id m at idle active below e refl d),
-          ((λ _. (o, refl, quiet_enters s r id m at idle active below e refl d)), (λ ne. absurd (ne is))))
+          ((λ _. (o, refl, quiet_enters s r id m at idle active below e refl d)), (λ ne. absurd (ne is))),
+        )
 
     miss : (slots : ℕ) → now ≢ old → Emptied slots now now
     unfolding Emptied
     miss slots ne =
         let k = r.knows id m.0 at in let w : View = missed m.0 (length r.log) (item_count r.lists) in
         let le = k.late in
-        let apart : m.0.events ≢ length r.log = λ (same : m.0.events ≡ length r.log). let i = k.last same in ne (omega arith) in
-        (w, keeps, tt,
+        let apart : m.0.events ≢ length r.log = λ (same : m.0.events ≡ length r.log). let i = k.last same in ne (omega arith) in (
+          w,
+          keeps,
+          tt,
           subst (λ (ws : List ℕ). Stands pr n record { words = ws; homes = s.homes; views = set s.views id w }) (sym (set-get_or s.words 0 0) ∙ ap (set s.words 0) r.words.0)
               (quiet pr n s r id m.0 at w
-                  record {
-                    of_callers = k.of_callers;
-                    wide = k.wide;
-                    holder = k.holder;
-                    keeps = k.keeps;
-                    begun = k.begun;
-                    bare = k.bare;
-                    late = k.late;
-                    last = k.last;
-                    joint = k.joint;
-                  }
-                  (λ d x. x)),
-          ((λ is. absurd (ne is)), (λ _. (length r.log, item_count r.lists, shows pr n s r, omega arith, refl, sees_all pr n s r id m.0 at))))
+              record {
+                of_callers = k.of_callers;
+                wide = k.wide;
+                holder = k.holder;
+                keeps = k.keeps;
+                begun = k.begun;
+                bare = k.bare;
+                late = k.late;
+                last = k.last;
+                joint = k.joint;
+              }
+              (λ d x. x)),
+          ((λ is. absurd (ne is)), (λ _. (length r.log, item_count r.lists, shows pr n s r, omega arith, refl, sees_all pr n s r id m.0 at))),
+        )
 
     emptied_at : (slots : ℕ) → Emptied slots (get_or s.words 0 0) (either (eqb (get_or s.words 0 0) old) (old + 1048576) (get_or s.words 0 0))
     emptied_at slots = subst (λ (z : ℕ). Emptied slots z (either (eqb z old) (old + 1048576) z)) (sym r.words.0) (exchanged now old (old + 1048576) (Emptied slots now) (hit slots) (miss slots))

@@ -1,5 +1,5 @@
 -- A list is taken, or found in another's hand.
-use Rattle.std.proofs.Common.{◌≡◌, ◌≢◌, ℕ, suc, ◌+◌, ◌<◌, ◌≤◌, ◌⊎◌, eqb, cond, List, [], ◌∷◌, length, get_or, set, Bool, sym, refl, ap, ◌∙◌, subst, inl, inr, ⊎_elim, arith, eq-eqb, ne_eqb, length-set, get_or-set_other, get_or-set_same}
+use Rattle.std.proofs.Common.{◌≡◌, ◌≢◌, ℕ, suc, ◌+◌, ◌<◌, ◌⊎◌, eqb, cond, List, length, get_or, set, Bool, sym, refl, ap, ◌∙◌, subst, inl, inr, ⊎_elim, arith, eq-eqb, ne_eqb, length-set, get_or-set_other, get_or-set_same}
 use mathlib.Core.Logic.{dite}
 use mathlib.Core.Option.{some, none}
 use native.Mathlib.Decide.{ℕ_discrete}
@@ -74,7 +74,7 @@ module _ (pr : Mark → ℕ) (n : ℕ) where
       got_keeps : (d : ℕ) (ys : List Mark) → hand_at got d ≡ Kept ys → Has n locks' r.lists keeper' id got d ys
       got_keeps d ys e = dite (ℕ_discrete d c)
           (λ (is : d ≡ c). subst (λ (z : ℕ). Has n locks' r.lists keeper' id got z ys) (sym is)
-              (inside, keeper_here, (λ z. let a = lock_here in omega arith), one_hand items ys (sym hand_got ∙ (ap (hand_at got) (sym is) ∙ e)), active))
+          (inside, keeper_here, (λ z. let a = lock_here in omega arith), one_hand items ys (sym hand_got ∙ (ap (hand_at got) (sym is) ∙ e)), active))
           (λ (ne : d ≢ c). has_else id got d ys ne (known.keeps d ys (sym (hand_else v.keeps c (Kept items) d ne) ∙ e)))
 
       abbrev after : Lain
@@ -82,14 +82,17 @@ module _ (pr : Mark → ℕ) (n : ℕ) where
 
       got_place : (d : ℕ) → d < n → AtHome s r.lists r.locks d ⊎ IsOut s r.locks r.keeper d → AtHome after r.lists locks' d ⊎ IsOut after locks' keeper' d
       got_place d lt p = dite (ℕ_discrete d c)
-          (λ (is : d ≡ c). inr (got, ap (get_elem? (set s.views id got)) (ap keeper' is ∙ keeper_here) ∙ set_here s.views id got (at_inside s.views id v at),
-              (ap (λ (z : ℕ). get_or locks' z 0) is ∙ lock_here, is_kept (hand_at got d) items (ap (hand_at got) is ∙ hand_got))))
+          (λ (is : d ≡ c). inr (
+            got,
+            ap (get_elem? (set s.views id got)) (ap keeper' is ∙ keeper_here) ∙ set_here s.views id got (at_inside s.views id v at),
+            (ap (λ (z : ℕ). get_or locks' z 0) is ∙ lock_here, is_kept (hand_at got d) items (ap (hand_at got) is ∙ hand_got)),
+          ))
           (λ (ne : d ≢ c). ⊎_elim
-              (λ (h : AtHome s r.lists r.locks d). inl (lock_else d ne ∙ h.0, set_else s.homes c d none ne ∙ h.1))
-              (λ (h : IsOut s r.locks r.keeper d).
-                  let x = some_seat (Names r.locks d) s.views id (r.keeper d) v got at (λ o. (o.0, subst IsKept (sym (hand_else v.keeps c (Kept items) d ne)) o.1)) h in
-                  inr (x.0, ap (get_elem? (set s.views id got)) (keeper_else d ne) ∙ x.1, (lock_else d ne ∙ x.2.0, x.2.1)))
-              p)
+          (λ (h : AtHome s r.lists r.locks d). inl (lock_else d ne ∙ h.0, set_else s.homes c d none ne ∙ h.1))
+          (λ (h : IsOut s r.locks r.keeper d).
+          let x = some_seat (Names r.locks d) s.views id (r.keeper d) v got at (λ o. (o.0, subst IsKept (sym (hand_else v.keeps c (Kept items) d ne)) o.1)) h in
+          inr (x.0, ap (get_elem? (set s.views id got)) (keeper_else d ne) ∙ x.1, (lock_else d ne ∙ x.2.0, x.2.1)))
+          p)
 
       got_kept : Stands pr n after
       got_kept = record {
@@ -151,24 +154,29 @@ module _ (pr : Mark → ℕ) (n : ℕ) where
         let o = out_there ne in let j : ℕ = o.0.caller in let w : View = held_by v c j in
         let u = r.knows (r.keeper c) o.0 o.1 in let xs = kept_is (hand_at o.0 c) o.2.1 in let h = u.keeps c xs.0 xs.1 in
         let apart : r.keeper c ≢ id = (λ (is : r.keeper c ≡ id). not_away (hand_at o.0 c) o.2.1 (ap (λ (z : View). hand_at z c) (one_view s.views (r.keeper c) id o.0 v o.1 at is) ∙ free)) in
-        let theirs = u.holder.owns j h.4 in
-        (w, keeps, tt,
+        let theirs = u.holder.owns j h.4 in (
+          w,
+          keeps,
+          tt,
           subst (λ (ws : List ℕ). Stands pr n record { words = ws; homes = s.homes; views = set s.views id w }) (sym (set-get_or s.words (list_word c) 0) ∙ ap (set s.words (list_word c)) (r.words.1 c lock_inside))
               (quiet pr n s r id v at w
-                  record {
-                    of_callers = known.of_callers;
-                    wide = known.wide;
-                    holder = known.holder;
-                    keeps = known.keeps;
-                    begun = known.begun;
-                    bare = known.bare;
-                    late = known.late;
-                    last = known.last;
-                    joint = known.joint;
-                  }
-                  (λ d x. x)),
-          ((λ z. absurd (ne z)),
-            (λ _. (j, refl, (o.2.0, not_theirs n r.log r.made r.owner id v.held v.made v.seen known.holder (r.keeper c) j (λ e. apart (sym e)) theirs.0, subst (λ (z : ℕ). j < z) (sym known.of_callers) theirs.1), sees_law pr n s r id v at))))
+              record {
+                of_callers = known.of_callers;
+                wide = known.wide;
+                holder = known.holder;
+                keeps = known.keeps;
+                begun = known.begun;
+                bare = known.bare;
+                late = known.late;
+                last = known.last;
+                joint = known.joint;
+              }
+              (λ d x. x)),
+          (
+            (λ z. absurd (ne z)),
+            (λ _. (j, refl, (o.2.0, not_theirs n r.log r.made r.owner id v.held v.made v.seen known.holder (r.keeper c) j (λ e. apart (sym e)) theirs.0, subst (λ (z : ℕ). j < z) (sym known.of_callers) theirs.1), sees_law pr n s r id v at)),
+          ),
+        )
 
     took_at : (slots : ℕ) → Took slots (get_or s.words (list_word c) 0) (either (eqb (get_or s.words (list_word c) 0) 0) k (get_or s.words (list_word c) 0))
     took_at slots = subst (λ (z : ℕ). Took slots z (either (eqb z 0) k z)) (sym (r.words.1 c lock_inside)) (exchanged (get_or r.locks c 0) 0 k (Took slots (get_or r.locks c 0)) (hit slots) (miss slots))
@@ -178,4 +186,4 @@ module _ (pr : Mark → ℕ) (n : ℕ) where
   unfolding Took
   list_takes slots id c caller m inside is active free =
       subst (λ (z : ℕ). Allows (Stands pr n) slots id m (list_word c) (λ x. either (eqb x 0) (z + 1) x) (took pr c (step slots (list_word c) 0 (z + 1) none) m)) is
-          (λ s r _ at _. took_at s r id c m at (subst (λ (z : ℕ). c < z) (r.knows id m.0 at).of_callers inside) active free slots)
+      (λ s r _ at _. took_at s r id c m at (subst (λ (z : ℕ). c < z) (r.knows id m.0 at).of_callers inside) active free slots)

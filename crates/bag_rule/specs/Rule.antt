@@ -1,6 +1,6 @@
 -- The rule of the bag's table. While the word of a list is 0 its slot has the list; else the seat whose
 -- caller the word names keeps it.
-use Rattle.std.specs.Prelude.{◌≡◌, ◌≢◌, ℕ, suc, ◌<◌, ◌≤◌, ◌⊎◌, ◌^◌, List, [], length, sum, Bool, true, false, slice_index, slice_index_or, Some, None, Option}
+use Rattle.std.specs.Prelude.{◌≡◌, ◌≢◌, ℕ, suc, ◌<◌, ◌≤◌, ◌⊎◌, ◌^◌, List, [], length, sum, true, false, slice_index, slice_index_or, Some, None, Option}
 use mathlib.Core.Option.{some}
 use lib.ListN.{get_elem?}
 use Rattle.atomic_table.specs.Table.{State}

@@ -9,7 +9,6 @@ use Rattle.ho_model.specs.Bag.{Lists, list_of, bag_step}
 use Rattle.passes.specs.Numbers.{HasAll, raised, first_held, give, only, held_both, made_both}
 use Rattle.passes.specs.Seen.{longer}
 use Rattle.bag_rule.specs.declared.view.View.{View}
-use Rattle.bag_rule.specs.declared.view.Joint.{Joint}
 use Rattle.bag_rule.specs.declared.view.Hand.{Hand}
 use Rattle.bag_rule.specs.declared.view.Hand.TheVariants.{Away, Kept}
 use Rattle.bag_rule.specs.declared.view.Obstacle.{Obstacle}

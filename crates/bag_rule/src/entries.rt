@@ -30,8 +30,11 @@ impl<T: Item> BagTable<T> {
             × (length items < 16383) }
         ensures same { IsSame seat.old seat.new }
         ensures made { let e = entry caller (Add (T.mark said.now.value)) Done in
-            (others : List EntryMark) × (seat.new.me ≡ (changed seat.old.me.0 others e caller
-            (kept_at seat.old.me.0 caller ++ T.mark said.now.value ∷ []), seat.old.me.1))
+            (others : List EntryMark) × (seat.new.me ≡ (
+              changed seat.old.me.0 others e caller
+                  (kept_at seat.old.me.0 caller ++ T.mark said.now.value ∷ []),
+              seat.old.me.1,
+            ))
             × Makes T.priority_of seat.old.me.0 others e result }
     {
         let own = caller as usize;
@@ -66,8 +69,11 @@ impl<T: Item> BagTable<T> {
         ensures same { IsSame seat.old seat.new }
         ensures made { let e = entry caller Take (ItemFrom (T.mark said.now.value) caller) in
             let items = kept_at seat.old.me.0 caller in
-            (others : List EntryMark) × (seat.new.me ≡ (changed seat.old.me.0 others e caller
-            (take (length items - 1) items), seat.old.me.1))
+            (others : List EntryMark) × (seat.new.me ≡ (
+              changed seat.old.me.0 others e caller
+                  (take (length items - 1) items),
+              seat.old.me.1,
+            ))
             × Makes T.priority_of seat.old.me.0 others e result }
     {
         let own = caller as usize;
@@ -90,8 +96,11 @@ impl<T: Item> BagTable<T> {
             × (0 < length items) × (first_item items ≡ T.mark said.now.value) × (length items ≤ 16383) }
         ensures same { IsSame seat.old seat.new }
         ensures made { let e = entry caller Take (ItemFrom (T.mark said.now.value) list) in
-            (others : List EntryMark) × (seat.new.me ≡ (changed seat.old.me.0 others e list
-            (drop 1 (kept_at seat.old.me.0 list)), seat.old.me.1))
+            (others : List EntryMark) × (seat.new.me ≡ (
+              changed seat.old.me.0 others e list
+                  (drop 1 (kept_at seat.old.me.0 list)),
+              seat.old.me.1,
+            ))
             × Makes T.priority_of seat.old.me.0 others e result }
     {
         // for the proof: its clauses name the caller

@@ -1,6 +1,5 @@
 -- A try of an add, from the list that was got.
-use Rattle.std.proofs.Common.{◌≡◌, ℕ, List, [], ◌∷◌, ◌++◌, length, set, sym, refl, ap, ◌∙◌, subst}
-use Rattle.std.specs.Prelude.{None}
+use Rattle.std.proofs.Common.{◌≡◌, ℕ, List, [], ◌∷◌, set, sym, refl, ap, ◌∙◌, subst}
 use Rattle.atomic_table.specs.Table.{rest}
 use Rattle.ho_base.specs.Marks.{Mark}
 use Rattle.ho_model.specs.declared.marks.EntryMark.{EntryMark}
@@ -67,10 +66,14 @@ module _ (pr : Mark → ℕ) (m : Sits) (idle : IsIdle m) (c : ℕ) (t : Sits) (
 
 -- another held the list
 pub held_ends : (pr : Mark → ℕ) (m : Sits) (idle : IsIdle m) (c word : ℕ) (w : Sits) → MissedList pr m.0 m.1 c word w → (read : List Obstacle) × MadeNone pr m.0 read w × OwnIsHeld m.0.callers c m.0.held read
-held_ends pr m idle c word w missed = (obstacle.Held c missed.0 ∷ [], subst (λ (z : Sits). MadeNone pr m.0 (obstacle.Held c missed.0 ∷ []) z) (sym missed.1) record {
+held_ends pr m idle c word w missed = (
+  obstacle.Held c missed.0 ∷ [],
+  subst (λ (z : Sits). MadeNone pr m.0 (obstacle.Held c missed.0 ∷ []) z) (sym missed.1) record {
     back = record { idle = idle; callers = refl; caller = refl; held = refl };
     seen = refl;
     made = refl;
     met = refl;
     lawful = missed.3;
-  }, (missed.0, (missed.2.2, missed.2.1), refl))
+  },
+  (missed.0, (missed.2.2, missed.2.1), refl),
+)

@@ -1,6 +1,6 @@
 -- All lists in one hand.
-use Rattle.std.proofs.Common.{◌≡◌, ◌≢◌, ℕ, suc, zero, ◌+◌, ◌<◌, ◌≤◌, List, [], ◌∷◌, ◌++◌, length, map, take, drop, get_or, set, sym, refl, ap, ◌∙◌, subst, arith, append_assoc, append-nil, length-set}
-use Rattle.std.specs.Prelude.{flat_map, None}
+use Rattle.std.proofs.Common.{◌≡◌, ℕ, suc, zero, ◌+◌, ◌<◌, ◌≤◌, List, [], ◌∷◌, ◌++◌, length, map, take, get_or, set, sym, refl, ap, ◌∙◌, subst, arith, append_assoc, append-nil, length-set}
+use Rattle.std.specs.Prelude.{flat_map}
 use Rattle.std.proofs.lemmas.List.{take_more}
 use Rattle.std.proofs.lemmas.List.Concat.{flat_map-cons}
 use Rattle.std.proofs.lemmas.Grind.{flat_map-append}
@@ -11,8 +11,8 @@ use Rattle.bag_rule.specs.declared.view.View.{View}
 use Rattle.bag_rule.specs.declared.view.Obstacle.{Obstacle}
 use Rattle.bag_rule.specs.declared.view.Hand.{Hand}
 use Rattle.bag_rule.specs.declared.view.Hand.TheVariants.{Away, Kept}
-use Rattle.bag_rule.specs.Views.{hand_at, none_kept, took_list, left_list, found_bare, entered, Agrees}
-use Rattle.bag_rule.specs.Plays.{Sits, Makes, GotList, SeesLaw}
+use Rattle.bag_rule.specs.Views.{hand_at, left_list, found_bare, entered, Agrees}
+use Rattle.bag_rule.specs.Plays.{Sits, Makes}
 use Rattle.bag_rule.specs.Seats.{front_of, InHand}
 use Rattle.bag_rule.proofs.Lists.{no_hand, hand_here, hand_else, not_away, is_kept}
 use Rattle.bag_tries.specs.Seats.{IsIdle, HasRead, MadeEntry, MadeNone}
@@ -145,13 +145,16 @@ module _ (pr : Mark → ℕ) (v : View) (m : Sits) (n : ℕ) (g : Gathers pr v m
       }
 
   pub none_ends : (u : Sits) → 0 < n → Released m u → (read : List Obstacle) × MadeNone pr v read u
-  none_ends u pos r = let a = g.has_read in let h = r.has_read in (g.read, record {
-    back = record { idle = (r.keeps, r.joint ∙ g.joint, r.carries); callers = h.callers ∙ a.callers; caller = h.caller ∙ a.caller; held = h.held ∙ a.held };
-    seen = h.seen ∙ a.seen;
-    made = h.made ∙ a.made;
-    met = h.met ∙ (append-nil m.0.met ∙ a.met);
-    lawful = g.lawful pos;
-  })
+  none_ends u pos r = let a = g.has_read in let h = r.has_read in (
+    g.read,
+    record {
+      back = record { idle = (r.keeps, r.joint ∙ g.joint, r.carries); callers = h.callers ∙ a.callers; caller = h.caller ∙ a.caller; held = h.held ∙ a.held };
+      seen = h.seen ∙ a.seen;
+      made = h.made ∙ a.made;
+      met = h.met ∙ (append-nil m.0.met ∙ a.met);
+      lawful = g.lawful pos;
+    },
+  )
 
   -- the lists are kept at the entry
   pub keeps_entered : (e : EntryMark) (others : List EntryMark) (w : Sits) → w ≡ (entered m.0 others e, m.1) → KeepsFirst w n

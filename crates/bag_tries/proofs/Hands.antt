@@ -1,5 +1,5 @@
 -- Lists that are taken and given back.
-use Rattle.std.proofs.Common.{◌≡◌, ◌≢◌, ℕ, ◌<◌, ◌≤◌, List, [], ◌∷◌, length, get_or, set, replicate, sym, refl, ap, ◌∙◌, subst, arith, set-set, length-set}
+use Rattle.std.proofs.Common.{◌≡◌, ◌≢◌, ℕ, ◌<◌, ◌≤◌, List, [], ◌∷◌, length, get_or, set, sym, refl, ap, ◌∙◌, subst, arith, set-set, length-set}
 use Rattle.std.proofs.lemmas.List.{set-get_or}
 use Rattle.atomic_table.specs.Table.{rest}
 use Rattle.ho_base.specs.Marks.{Mark}
@@ -7,7 +7,7 @@ use Rattle.passes.proofs.Starts.{length-replicate}
 use Rattle.bag_rule.specs.declared.view.View.{View}
 use Rattle.bag_rule.specs.declared.view.Hand.{Hand}
 use Rattle.bag_rule.specs.declared.view.Hand.TheVariants.{Away, Kept}
-use Rattle.bag_rule.specs.Views.{hand_at, none_kept, took_list}
+use Rattle.bag_rule.specs.Views.{hand_at, none_kept}
 use Rattle.bag_rule.specs.Plays.{Sits, GotList}
 use Rattle.bag_rule.specs.Seats.{front_of, InHand}
 use Rattle.bag_rule.proofs.Lists.{no_hand, hand_here, hand_else}

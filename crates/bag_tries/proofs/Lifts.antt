@@ -1,5 +1,5 @@
 -- What a call leaves, seen from an earlier point at which the seat had read less.
-use Rattle.std.proofs.Common.{◌≡◌, ℕ, List, [], ◌∷◌, ◌++◌, length, sym, refl, ap, ◌∙◌, subst, append_assoc, append-nil, Bool}
+use Rattle.std.proofs.Common.{◌≡◌, ℕ, List, [], ◌∷◌, ◌++◌, length, ap, ◌∙◌, subst, append_assoc, Bool}
 use Rattle.ho_base.specs.Marks.{Mark}
 use Rattle.ho_model.specs.declared.marks.EntryMark.{EntryMark}
 use Rattle.ho_model.specs.declared.objects.Object.TheVariants.{Bag}
@@ -7,7 +7,7 @@ use Rattle.passes.specs.Numbers.{raised}
 use Rattle.passes.specs.Seen.{AreOthers, IsLawful}
 use Rattle.bag_rule.specs.declared.view.View.{View}
 use Rattle.bag_rule.specs.declared.view.Obstacle.{Obstacle}
-use Rattle.bag_rule.specs.Plays.{Sits, Makes, SeesLaw}
+use Rattle.bag_rule.specs.Plays.{Sits, SeesLaw}
 use Rattle.bag_tries.specs.Seats.{IsBack, HasRead, MadeEntry, MadeNone}
 
 module _ (pr : Mark → ℕ) (v w : View) (first : List Obstacle) (later : HasRead v w first) (m : Sits) where

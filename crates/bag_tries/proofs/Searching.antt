@@ -1,6 +1,6 @@
 -- Looks into other lists, one after another.
-use Rattle.std.proofs.Common.{◌≡◌, ◌≢◌, ℕ, ◌+◌, ◌-◌, ◌<◌, ◌≤◌, ◌⊎◌, inl, inr, ⊎_elim, List, [], ◌∷◌, ◌++◌, length, get_or, set, drop, Bool, true, false, true≢false, cond, sym, refl, ap, ◌∙◌, subst, arith, append_assoc, append-nil, get_or-set_same, get_or-set_other, length-set}
-use Rattle.std.specs.Prelude.{Contains, nat_lt}
+use Rattle.std.proofs.Common.{◌≡◌, ◌≢◌, ℕ, ◌+◌, ◌-◌, ◌<◌, ◌≤◌, inl, inr, ⊎_elim, List, [], ◌∷◌, ◌++◌, length, get_or, set, drop, Bool, true, false, true≢false, sym, refl, ap, ◌∙◌, subst, arith, append_assoc, append-nil, get_or-set_same, get_or-set_other, length-set}
+use Rattle.std.specs.Prelude.{Contains}
 use Rattle.std.proofs.lemmas.Bool.{cases_lt}
 use Rattle.std.proofs.lemmas.List.Elements.{Contains-append_left, Contains-append_right}
 use mathlib.Core.Logic.{dite}
@@ -36,11 +36,14 @@ module _ (pr : Mark → ℕ) (m : Sits) (c : ℕ) (own : HasOwnBare m c) (low : 
   pub got_steals : {T : Type 0} (mark : T → Mark) (item : T) (place : ℕ) (w : Sits) → KeptSteals pr mark c t list w (item, place) → Steals pr mark c m list item place w
   got_steals mark item place w k =
       let e : EntryMark = item_entry pr mark c item list in
-      let bare : List Bool = noted v.bare list (hand_at (changed (took_list v list got.0) k.0 e list (drop 1 got.0)) list) in
-      (found_bare list got.0, bare, k.0,
+      let bare : List Bool = noted v.bare list (hand_at (changed (took_list v list got.0) k.0 e list (drop 1 got.0)) list) in (
+        found_bare list got.0,
+        bare,
+        k.0,
         k.1 ∙ (ap (λ (z : Sits). (left_list (changed z.0 k.0 e list (drop 1 (front_of z.1))) list, rest z.1)) got.1
-        ∙ ap (λ (hands : List Hand). (record (robbed v (found_bare list got.0) bare k.0 e) { keeps = hands }, m.1)) (back_twice v.keeps list (Kept got.0) (Kept (drop 1 got.0)) away)),
-        subst (λ (z : Sits). Makes pr z.0 k.0 e place) got.1 k.2)
+            ∙ ap (λ (hands : List Hand). (record (robbed v (found_bare list got.0) bare k.0 e) { keeps = hands }, m.1)) (back_twice v.keeps list (Kept got.0) (Kept (drop 1 got.0)) away)),
+        subst (λ (z : Sits). Makes pr z.0 k.0 e place) got.1 k.2,
+      )
 
   pub got_bare : (w : Sits) → front_of t.1 ≡ [] → w ≡ (left_list t.0 list, rest t.1) → w ≡ (wandered v (Bare list ∷ []) (set v.bare list true), m.1)
   got_bare w bare is =
@@ -96,26 +99,29 @@ module _ (c : ℕ) (v : View) (n : ℕ) where
         flagged down j pos lt = dite (ℕ_discrete (other_list c j n) list)
             (λ (e : other_list c j n ≡ list). ap (λ (z : ℕ). get_or (set g.bare list true) z false) e ∙ get_or-set_same g.bare list true false (let l : length g.bare ≡ 64 = g.wide in omega arith))
             (λ (ne : other_list c j n ≢ list). get_or-set_other g.bare list (other_list c j n) true false ne
-                ∙ g.all_bare down j pos (let apart : j ≢ k = (λ (e : j ≡ k). ne (ap (λ (z : ℕ). other_list c z n) e ∙ sym at)) in omega arith))
+            ∙ g.all_bare down j pos (let apart : j ≢ k = (λ (e : j ≡ k). ne (ap (λ (z : ℕ). other_list c z n) e ∙ sym at)) in omega arith))
 
     pub went_held : list < v.callers → (other : ℕ) → IsOther w.callers c w.held [] other → (w' : View) → w' ≡ wandered w (Held list other ∷ []) w.bare → Went c v w' n (k + 1) true
     went_held low other is_other w' is =
         let its = subst (λ (z : View). IsOther z.callers c z.held [] other) g.is is_other in record {
-      read = g.read ++ Held list other ∷ [];
-      bare = g.bare;
-      is = went_is (Held list other) g.bare w' (is ∙ ap (λ (z : List Bool). wandered w (Held list other ∷ []) z) (ap (λ (z : View). z.bare) g.is));
-      wide = g.wide;
-      tried = tried_next (Held list other) (inr (other, its, last_read g.read (Held list other)));
-      all_bare = λ down. absurd (true≢false down);
-      one_held = λ up. (list, other, low, its, last_read g.read (Held list other));
-    }
+          read = g.read ++ Held list other ∷ [];
+          bare = g.bare;
+          is = went_is (Held list other) g.bare w' (is ∙ ap (λ (z : List Bool). wandered w (Held list other ∷ []) z) (ap (λ (z : View). z.bare) g.is));
+          wide = g.wide;
+          tried = tried_next (Held list other) (inr (other, its, last_read g.read (Held list other)));
+          all_bare = λ down. absurd (true≢false down);
+          one_held = λ up. (list, other, low, its, last_read g.read (Held list other));
+        }
 
     pub went_stolen : {T : Type 0} (pr : Mark → ℕ) (mark : T → Mark) (carried : List (ℕ × List Mark)) (from : ℕ) (item : T) (place : ℕ) (w' : Sits) → Steals pr mark c (w, carried) from item place w' → Steals pr mark c (v, carried) from item place w'
     went_stolen pr mark carried from item place w' s =
-        let e : EntryMark = item_entry pr mark c item from in
-        (g.read ++ s.0, s.1, s.2,
+        let e : EntryMark = item_entry pr mark c item from in (
+          g.read ++ s.0,
+          s.1,
+          s.2,
           s.3 ∙ (ap (λ (z : View). (robbed z s.0 s.1 s.2 e, carried)) g.is ∙ ap (λ (z : List Obstacle). (record (robbed v [] s.1 s.2 e) { met = z }, carried)) (append_assoc v.met g.read s.0)),
-          subst (λ (z : View). Makes pr z s.2 e place) g.is s.4)
+          subst (λ (z : View). Makes pr z s.2 e place) g.is s.4,
+        )
 
 -- each list but the own one is some steps behind it
 pub steps_behind : (c n list : ℕ) → c < n → list < n → list ≢ c → (j : ℕ) × (0 < j) × (j < n) × (other_list c j n ≡ list)

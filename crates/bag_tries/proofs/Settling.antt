@@ -1,31 +1,28 @@
 -- How a take ends that found no item in its own list.
-use Rattle.std.proofs.Common.{◌≡◌, ◌≢◌, ℕ, ◌+◌, ◌*◌, ◌%◌, ◌<◌, ◌≤◌, ◌⊎◌, inl, inr, ⊎_elim, List, [], ◌∷◌, ◌++◌, length, get_or, set, Bool, true, false, sym, refl, ap, ◌∙◌, subst, arith, append-nil, append_assoc}
+use Rattle.std.proofs.Common.{◌≡◌, ◌≢◌, ℕ, ◌%◌, ◌<◌, inl, inr, ⊎_elim, List, [], ◌∷◌, ◌++◌, length, get_or, Bool, false, sym, refl, ap, ◌∙◌, subst, arith, append-nil, append_assoc}
 use Rattle.std.specs.Prelude.{Contains, None}
 use Rattle.std.proofs.lemmas.List.Elements.{Contains-append_left, Contains-append_right}
 use Rattle.atomic_table.specs.Table.{rest}
 use mathlib.Core.Logic.{dite}
 use native.Mathlib.Decide.{ℕ_discrete}
 use Rattle.ho_base.specs.Marks.{Mark}
-use Rattle.ho_model.specs.Entries.{entry}
 use Rattle.ho_model.specs.declared.marks.EntryMark.{EntryMark}
-use Rattle.ho_model.specs.declared.marks.CallMark.TheVariants.{Take}
-use Rattle.ho_model.specs.declared.marks.ReplyMark.TheVariants as reply
 use Rattle.passes.specs.Numbers.{HasAll}
 use Rattle.bag_rule.specs.declared.view.View.{View}
 use Rattle.bag_rule.specs.declared.view.Obstacle.{Obstacle}
 use Rattle.bag_rule.specs.declared.view.Obstacle.TheVariants.{Held, Bare, Event}
-use Rattle.bag_rule.specs.declared.view.Hand.TheVariants.{Away, Kept}
-use Rattle.bag_rule.specs.Views.{IsWhole, hand_at, AreBare, none_kept, left_list, entered, missed, looked_again, began, empty_entry, took_list, found_bare}
-use Rattle.bag_rule.specs.Plays.{Sits, Shows, Makes, SeesAll, SeesLaw, Begins, LooksAgain, LostEvent, GotList}
+use Rattle.bag_rule.specs.declared.view.Hand.TheVariants.{Kept}
+use Rattle.bag_rule.specs.Views.{hand_at, AreBare, left_list, entered, missed, looked_again, began, took_list}
+use Rattle.bag_rule.specs.Plays.{Sits, Shows, Makes, SeesAll, SeesLaw, GotList}
 use Rattle.bag_rule.specs.Seats.{front_of}
 use Rattle.bag_rule.proofs.Words.{rest_of}
 use Rattle.bag_tries.specs.Causes.{SkipsAList, MissesAnEvent, WasTried, IsOther}
-use Rattle.bag_tries.specs.Seats.{IsIdle, HasOwnBare, IsBack, HasRead, MadeEntry, MadeNone}
-use Rattle.bag_tries.specs.Takes.{wandered, robbed, Went, FindsEmpty, Settles, GoesRound, TryTakes, Steals, bare_entry, item_entry}
+use Rattle.bag_tries.specs.Seats.{IsIdle, HasOwnBare, HasRead, MadeEntry, MadeNone}
+use Rattle.bag_tries.specs.Takes.{wandered, robbed, Went, FindsEmpty, Settles, GoesRound, TryTakes, bare_entry, item_entry}
 use Rattle.bag_tries.specs.declared.takes.TakeTry.{TakeTry}
 use Rattle.bag_tries.specs.declared.takes.TakeTry.TheVariants as tries
-use Rattle.bag_tries.proofs.Hands.{none_back, own_kept}
-use Rattle.bag_tries.proofs.Lifts.{lift_none, lift_entry, lift_law}
+use Rattle.bag_tries.proofs.Hands.{none_back}
+use Rattle.bag_tries.proofs.Lifts.{lift_none, lift_entry}
 use Rattle.bag_tries.proofs.Searching.{tried_more, last_read, steps_behind}
 
 -- the own list, without an item, is given back
@@ -98,9 +95,12 @@ module _ {T : Type 0} (pr : Mark → ℕ) (mark : T → Mark) (c : ℕ) where
   pub settles_empty : (v w : View) (skipped : Bool) (events items : ℕ) (m : Sits) → w ≡ looked_again v events items → SeesAll v events → (r : TakeTry T) → FindsEmpty pr mark c w m r → Settles pr mark c v skipped m r
   settles_empty v w skipped events items m is all (tries.Empty place) f = lift_entry pr v w (Event events items ∷ []) (looked_later v w events items is) m (bare_entry pr mark c) place f
   settles_empty v w skipped events items m is all tries.Lost f =
-      let later = looked_later v w events items is in
-      (f.0, f.1, subst (λ (z : View). SeesAll z f.0) is f.4,
-        inr (events, items, lift_none pr v w (Event events items ∷ []) later m (Event f.0 f.1 ∷ []) f.2, subst (λ (z : View). z.events < f.0) is f.3, all))
+      let later = looked_later v w events items is in (
+        f.0,
+        f.1,
+        subst (λ (z : View). SeesAll z f.0) is f.4,
+        inr (events, items, lift_none pr v w (Event events items ∷ []) later m (Event f.0 f.1 ∷ []) f.2, subst (λ (z : View). z.events < f.0) is f.3, all),
+      )
   settles_empty v w skipped events items m is all tries.Held f = absurd f
   settles_empty v w skipped events items m is all (tries.Item from item place) f = absurd f
 
@@ -109,17 +109,20 @@ module _ {T : Type 0} (pr : Mark → ℕ) (mark : T → Mark) (c : ℕ) where
   goes_empty v w events items m is all (tries.Empty place) f = lift_entry pr v w (Event events items ∷ []) (began_later v w events items is) m (bare_entry pr mark c) place f
   goes_empty v w events items m is all tries.Lost f =
       let less : events < f.0 = subst (λ (z : View). z.events < f.0) is f.3 in
-      let later_all : SeesAll v f.0 = subst (λ (z : View). SeesAll z f.0) is f.4 in
-      (Event events items ∷ Event f.0 f.1 ∷ [], lift_none pr v w (Event events items ∷ []) (began_later v w events items is) m (Event f.0 f.1 ∷ []) f.2, record {
-        events = events;
-        items = items;
-        later_events = f.0;
-        later_items = f.1;
-        more = less;
-        first = (0, omega arith, refl);
-        second = (1, omega arith, refl);
-        others = λ whole. let a = all whole in let b = later_all whole in omega arith;
-      })
+      let later_all : SeesAll v f.0 = subst (λ (z : View). SeesAll z f.0) is f.4 in (
+        Event events items ∷ Event f.0 f.1 ∷ [],
+        lift_none pr v w (Event events items ∷ []) (began_later v w events items is) m (Event f.0 f.1 ∷ []) f.2,
+        record {
+          events = events;
+          items = items;
+          later_events = f.0;
+          later_items = f.1;
+          more = less;
+          first = (0, omega arith, refl);
+          second = (1, omega arith, refl);
+          others = λ whole. let a = all whole in let b = later_all whole in omega arith;
+        },
+      )
   goes_empty v w events items m is all tries.Held f = absurd f
   goes_empty v w events items m is all (tries.Item from item place) f = absurd f
 
@@ -159,36 +162,50 @@ module _ {T : Type 0} (pr : Mark → ℕ) (mark : T → Mark) (c : ℕ) where
     pub settled : (r : TakeTry T) → Settles pr mark c w skipped m r → GoesRound pr mark c v m r
     settled (tries.Empty place) s = lift_entry pr v w first later m (bare_entry pr mark c) place s
     settled tries.Held s =
-        let h = g.one_held s.0 in let o : Obstacle = Event s.1 s.2 in
-        (first ++ o ∷ [], lift_none pr v w first later m (o ∷ []) s.3, record {
-          each = each_tried o;
-          skipped = (h.0, h.1, subst (λ (z : View). h.0 < z.callers) is h.2, subst (λ (z : View). IsOther z.callers c z.held [] h.1) is h.3,
-            Contains-append_left first (o ∷ []) (Held h.0 h.1) (Contains-append_right (Event events items ∷ []) g.read (Held h.0 h.1) h.4));
-          last = (first, s.1, s.2, refl, s.4);
-        })
+        let h = g.one_held s.0 in let o : Obstacle = Event s.1 s.2 in (
+          first ++ o ∷ [],
+          lift_none pr v w first later m (o ∷ []) s.3,
+          record {
+            each = each_tried o;
+            skipped = (
+              h.0,
+              h.1,
+              subst (λ (z : View). h.0 < z.callers) is h.2,
+              subst (λ (z : View). IsOther z.callers c z.held [] h.1) is h.3,
+              Contains-append_left first (o ∷ []) (Held h.0 h.1) (Contains-append_right (Event events items ∷ []) g.read (Held h.0 h.1) h.4),
+            );
+            last = (first, s.1, s.2, refl, s.4);
+          },
+        )
     settled tries.Lost s = ⊎_elim
-        (λ t. let o : Obstacle = Event s.0 s.1 in let since = since_is in let less : w.since < s.0 = t.1 in
-            (first ++ o ∷ [], lift_none pr v w first later m (o ∷ []) t.0, record {
-              events = events;
-              items = items;
-              later_events = s.0;
-              later_items = s.1;
-              more = omega arith;
-              first = (0, omega arith, refl);
-              second = last_read first o;
-              others = λ whole. let a = all whole in let b = sees s.0 s.2 whole in omega arith;
-            }))
-        (λ t. let o : Obstacle = Event t.0 t.1 in let o' : Obstacle = Event s.0 s.1 in
-            (first ++ o ∷ o' ∷ [], lift_none pr v w first later m (o ∷ o' ∷ []) t.2, record {
-              events = t.0;
-              items = t.1;
-              later_events = s.0;
-              later_items = s.1;
-              more = t.3;
-              first = Contains-append_right first (o ∷ o' ∷ []) o (0, omega arith, refl);
-              second = Contains-append_right first (o ∷ o' ∷ []) o' (1, omega arith, refl);
-              others = λ whole. let a = sees t.0 t.4 whole in let b = sees s.0 s.2 whole in let l : t.0 < s.0 = t.3 in omega arith;
-            }))
+        (λ t. let o : Obstacle = Event s.0 s.1 in let since = since_is in let less : w.since < s.0 = t.1 in (
+          first ++ o ∷ [],
+          lift_none pr v w first later m (o ∷ []) t.0,
+          record {
+            events = events;
+            items = items;
+            later_events = s.0;
+            later_items = s.1;
+            more = omega arith;
+            first = (0, omega arith, refl);
+            second = last_read first o;
+            others = λ whole. let a = all whole in let b = sees s.0 s.2 whole in omega arith;
+          },
+        ))
+        (λ t. let o : Obstacle = Event t.0 t.1 in let o' : Obstacle = Event s.0 s.1 in (
+          first ++ o ∷ o' ∷ [],
+          lift_none pr v w first later m (o ∷ o' ∷ []) t.2,
+          record {
+            events = t.0;
+            items = t.1;
+            later_events = s.0;
+            later_items = s.1;
+            more = t.3;
+            first = Contains-append_right first (o ∷ o' ∷ []) o (0, omega arith, refl);
+            second = Contains-append_right first (o ∷ o' ∷ []) o' (1, omega arith, refl);
+            others = λ whole. let a = sees t.0 t.4 whole in let b = sees s.0 s.2 whole in let l : t.0 < s.0 = t.3 in omega arith;
+          },
+        ))
         s.3
     settled (tries.Item from item place) s = absurd s
 
@@ -197,9 +214,9 @@ pub bare_round : (c : ℕ) (b w : View) (n : ℕ) → Went c b w n n false → b
 bare_round c b w n g callers low kept d lt = dite (ℕ_discrete d c)
     (λ (e : d ≡ c). inr (ap (hand_at w) e ∙ kept))
     (λ (ne : d ≢ c).
-        let same : w.callers ≡ b.callers = ap (λ (z : View). z.callers) g.is in
-        let j = steps_behind c n d low (omega arith) ne in
-        inl (ap (λ (z : View). get_or z.bare d false) g.is ∙ (ap (λ (z : ℕ). get_or g.bare z false) (sym j.3) ∙ g.all_bare refl j.0 j.1 j.2)))
+    let same : w.callers ≡ b.callers = ap (λ (z : View). z.callers) g.is in
+    let j = steps_behind c n d low (omega arith) ne in
+    inl (ap (λ (z : View). get_or z.bare d false) g.is ∙ (ap (λ (z : ℕ). get_or g.bare z false) (sym j.3) ∙ g.all_bare refl j.0 j.1 j.2)))
 
 -- what a call that began with the own list in hand, without an item, comes to
 module _ {T : Type 0} (pr : Mark → ℕ) (mark : T → Mark) (c : ℕ) (v w : View) (later : HasRead v w (Bare c ∷ [])) (m : Sits) where

@@ -1,7 +1,6 @@
 -- All lists in one hand.
 use Rattle.std.specs.Prelude.{◌≡◌, ℕ, suc, zero, ◌<◌, ◌++◌, List, [], ◌∷◌, map, slice_set, None}
 use Rattle.ho_base.specs.Marks.{Mark, number_of}
-use Rattle.ho_model.specs.declared.marks.EntryMark.{EntryMark}
 use Rattle.bag_rule.specs.declared.view.View.{View}
 use Rattle.bag_rule.specs.declared.view.Hand.{Hand}
 use Rattle.bag_rule.specs.declared.view.Hand.TheVariants.{Kept}

@@ -1,5 +1,5 @@
 -- What a try of a take tells.
-use Rattle.std.specs.Prelude.{◌≡◌, ◌≢◌, ℕ, ◌+◌, ◌-◌, ◌<◌, ◌++◌, ◌⊎◌, List, [], ◌∷◌, length, take, drop, slice_set, Bool, true, false, slice_index_or, Contains, nat_lt, if◌then◌else◌}
+use Rattle.std.specs.Prelude.{◌≡◌, ℕ, ◌+◌, ◌-◌, ◌<◌, ◌++◌, ◌⊎◌, List, [], ◌∷◌, length, take, drop, slice_set, Bool, true, false, slice_index_or, Contains, nat_lt, if◌then◌else◌}
 use Rattle.atomic_table.specs.Table.{rest}
 use Rattle.ho_base.specs.Marks.{Mark}
 use Rattle.ho_model.specs.declared.marks.EntryMark.{EntryMark}

@@ -23,12 +23,7 @@ pub enum AddTry<T> {
 /// Adds an item to the own list, which is in hand, and gives the list back.
 ///
 /// The item is pushed before the entry is made, so that no memory is wanted after an entry.
-fn add_kept<T: Item>(
-    table: &BagTable<T>,
-    seat: &mut Seat<T>,
-    caller: u32,
-    item: T,
-) -> AddTry<T>
+fn add_kept<T: Item>(table: &BagTable<T>, seat: &mut Seat<T>, caller: u32, item: T) -> AddTry<T>
     requires table { IsFor table.now seat.old }
     requires may { MayEnter seat.old.me.0 }
     requires caller { (seat.old.me.0.caller ≡ caller) × (caller < seat.old.me.0.callers) }
@@ -57,12 +52,7 @@ fn add_kept<T: Item>(
 }
 
 /// Tries an add once.
-pub fn try_add<T: Item>(
-    table: &BagTable<T>,
-    seat: &mut Seat<T>,
-    caller: u32,
-    item: T,
-) -> AddTry<T>
+pub fn try_add<T: Item>(table: &BagTable<T>, seat: &mut Seat<T>, caller: u32, item: T) -> AddTry<T>
     requires table { IsFor table.now seat.old }
     requires may { MayEnter seat.old.me.0 }
     requires caller { (seat.old.me.0.caller ≡ caller) × (caller < seat.old.me.0.callers) }

@@ -98,11 +98,7 @@ fn other_list(own: u32, step: u32, callers: u32) -> u32
 }
 
 /// Looks into all other lists, from the one behind the own one, until one has an item.
-pub(crate) fn look_round<T: Item>(
-    table: &BagTable<T>,
-    seat: &mut Seat<T>,
-    caller: u32,
-) -> Round<T>
+pub(crate) fn look_round<T: Item>(table: &BagTable<T>, seat: &mut Seat<T>, caller: u32) -> Round<T>
     requires table { IsFor table.now seat.old }
     requires may { MayEnter seat.old.me.0 }
     requires caller { (seat.old.me.0.caller ≡ caller) × (caller < seat.old.me.0.callers) }

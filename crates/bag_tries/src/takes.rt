@@ -93,7 +93,11 @@ fn settle<T: Item>(
         return find_empty(table, seat, caller, word);
     }
     table.leave_list(seat, caller as usize);
-    if skipped { TakeTry::Held } else { TakeTry::Lost }
+    if skipped {
+        TakeTry::Held
+    } else {
+        TakeTry::Lost
+    }
 }
 
 /// Takes an item from another list, while the own one is kept and has none.

@@ -1,5 +1,5 @@
 -- The fields of a pass, after a split, a join, and a call that made no entry.
-use Rattle.std.proofs.Common.{◌≡◌, ℕ, ◌+◌, ◌<◌, ◌≤◌, List, [], ◌∷◌, ◌++◌, set, get_or, Bool, false, sym, refl, ap, ◌∙◌, subst, arith, append-nil}
+use Rattle.std.proofs.Common.{◌≡◌, ℕ, ◌+◌, ◌<◌, List, [], ◌∷◌, set, get_or, Bool, false, sym, refl, ap, ◌∙◌, subst, arith, append-nil}
 use Rattle.std.proofs.lemmas.List.{set-get_or}
 use Rattle.std.specs.Prelude.{None}
 use Rattle.atomic_table.specs.Seated.{TableId}
@@ -87,13 +87,15 @@ joined_agrees table v w numbers numbers1 numbers' a b is = subst (λ (z : Number
 pub lacks : (pr : Mark → ℕ) (old new : Badge View) (v : View) (m : Sits) → old.views ≡ v ∷ [] → new.views ≡ m.0 ∷ [] → new.table_id ≡ old.table_id → HasNumber v.held v.caller → (read : List Obstacle) → MadeNone pr v read m
     → LacksMemory pr (view_of old) (view_of new)
 lacks pr old new v m is is' table own read n =
-    subst (λ (z : BagView × BagView). LacksMemory pr z.0 z.1) (λ i. (pass_view old.table_id (the_view (sym is i)), pass_view (sym table i) (the_view (sym is' i))))
-    (record {
-      same = record { table = refl; object = refl; callers = n.back.callers; caller = n.back.caller; held = n.back.held; own = subst (λ (z : List Bool × ℕ). HasNumber z.0 z.1) (λ i. (sym n.back.held i, sym n.back.caller i)) own };
-      no_entry = record { seen = ([], n.seen ∙ sym (append-nil v.seen), tt); lawful = subst (λ (z : List EntryMark). IsLawful pr object.Bag v.callers z) (sym n.seen) n.lawful };
-      counted = (0, uncounted);
-      met = (read, n.met);
-    }, (0, omega arith, uncounted))
+    subst (λ (z : BagView × BagView). LacksMemory pr z.0 z.1) (λ i. (pass_view old.table_id (the_view (sym is i)), pass_view (sym table i) (the_view (sym is' i)))) (
+      record {
+        same = record { table = refl; object = refl; callers = n.back.callers; caller = n.back.caller; held = n.back.held; own = subst (λ (z : List Bool × ℕ). HasNumber z.0 z.1) (λ i. (sym n.back.held i, sym n.back.caller i)) own };
+        no_entry = record { seen = ([], n.seen ∙ sym (append-nil v.seen), tt); lawful = subst (λ (z : List EntryMark). IsLawful pr object.Bag v.callers z) (sym n.seen) n.lawful };
+        counted = (0, uncounted);
+        met = (read, n.met);
+      },
+      (0, omega arith, uncounted),
+    )
   where
     uncounted : m.0.made ≡ set v.made v.caller (get_or v.made v.caller 0 + 0)
     uncounted = let e : get_or v.made v.caller 0 ≡ get_or v.made v.caller 0 + 0 = omega arith in n.made ∙ (sym (set-get_or v.made v.caller 0) ∙ ap (set v.made v.caller) e)

@@ -1,7 +1,6 @@
 -- What one try of a call on a bag of local lists comes to: p is the pass before, and q after.
 use Rattle.std.specs.Prelude.{◌≡◌, ℕ, ◌≤◌, ◌^◌, ◌++◌, List, slice_index}
 use Rattle.ho_base.specs.Marks.{Mark}
-use Rattle.ho_base.specs.declared.receipts.Receipt.{Receipt}
 use Rattle.ho_model.specs.Entries.{entry}
 use Rattle.ho_model.specs.declared.marks.CallMark.TheVariants as callmark
 use Rattle.passes.specs.Seen.{IsLawful}

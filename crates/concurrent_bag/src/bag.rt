@@ -2,9 +2,8 @@
 ghost use Rattle.std.specs.Prelude.{◌≡◌, ◌<◌, ◌≤◌, IfOk};
 
 use crate::answers::{BagAdd, BagAddOnce, BagTake, BagTakeOnce};
-use crate::lasting;
-use crate::once;
 use crate::pass::BagPass;
+use crate::{lasting, once};
 use bag_rule::BagTable;
 use ho_base::{Item, NoMemory, Receipt, Unpaid};
 use ho_model::Items;
@@ -80,7 +79,13 @@ impl<T: Item> ConcurrentBag<T> {
         ensures { Joins T.priority_of pass.old other pass.new }
     {
         let BagPass { badge, numbers } = other;
-        once::join(&self.table, &mut pass.badge, &mut pass.numbers, badge, numbers)
+        once::join(
+            &self.table,
+            &mut pass.badge,
+            &mut pass.numbers,
+            badge,
+            numbers,
+        )
     }
 
     /// Puts an item last in the caller's own list, if that has room (`Add`). A list has room for 16,383

@@ -85,7 +85,10 @@ pub(crate) fn take<T: Item, R: Wait>(
     numbers.count_call();
     match taken {
         TakeTry::Item { from, item, place } => {
-            (BagTake::Item { from, item }, Receipt::Place { number: place })
+            (
+                BagTake::Item { from, item },
+                Receipt::Place { number: place },
+            )
         }
         TakeTry::Empty(number) => (BagTake::Empty, Receipt::Place { number }),
         TakeTry::Held => unreachable!(),

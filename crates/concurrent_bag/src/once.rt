@@ -93,7 +93,10 @@ pub(crate) fn take<T: Item>(
     match tried {
         TakeTry::Item { from, item, place } => {
             numbers.count_call();
-            BagTakeOnce::Answer(BagTake::Item { from, item }, Receipt::Place { number: place })
+            BagTakeOnce::Answer(
+                BagTake::Item { from, item },
+                Receipt::Place { number: place },
+            )
         }
         TakeTry::Empty(number) => {
             numbers.count_call();

@@ -15,7 +15,10 @@ fn fills(bag: &ConcurrentBag<u64>, pass: &mut BagPass, count: u64) -> bool
     ensures { pass.new.table ≡ bag.now }
 {
     for item in 0..count {
-        if !matches!(bag.add_once(pass, item), BagAddOnce::Answer(BagAdd::Done, _)) {
+        if !matches!(
+            bag.add_once(pass, item),
+            BagAddOnce::Answer(BagAdd::Done, _)
+        ) {
             return false;
         }
     }
@@ -25,8 +28,14 @@ fn fills(bag: &ConcurrentBag<u64>, pass: &mut BagPass, count: u64) -> bool
 #[test]
 fn a_whole_pass_meets_nobody(rt: HostRuntime) -> Result<(), Fail> {
     let (bag, mut pass) = ConcurrentBag::new(rt.alloc(), 1)?;
-    assert_eq!(rt; bag.take_once(&mut pass), BagTakeOnce::Answer(BagTake::Empty, place(0)));
-    assert_eq!(rt; bag.add_once(&mut pass, 5u64), BagAddOnce::Answer(BagAdd::Done, place(1)));
+    assert_eq!(rt;
+        bag.take_once(&mut pass),
+        BagTakeOnce::Answer(BagTake::Empty, place(0))
+    );
+    assert_eq!(rt;
+        bag.add_once(&mut pass, 5u64),
+        BagAddOnce::Answer(BagAdd::Done, place(1))
+    );
     assert_eq!(rt;
         bag.take_once(&mut pass),
         BagTakeOnce::Answer(BagTake::Item { from: 0, item: 5 }, place(2))
@@ -86,7 +95,10 @@ fn a_list_is_full_at_its_limit(rt: HostRuntime) -> Result<(), Fail> {
         bag.add_once(&mut a, 7),
         BagAddOnce::Answer(BagAdd::Full(7), place(16_383))
     );
-    assert_eq!(rt; bag.add_once(&mut b, 7), BagAddOnce::Answer(BagAdd::Done, place(16_384)));
+    assert_eq!(rt;
+        bag.add_once(&mut b, 7),
+        BagAddOnce::Answer(BagAdd::Done, place(16_384))
+    );
     assert_eq!(rt; bag.count(&rt, &mut a), (16_384, place(16_385)));
     Ok(())
 }

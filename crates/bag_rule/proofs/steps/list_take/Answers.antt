@@ -1,4 +1,4 @@
-use Rattle.std.proofs.Common.{rules, arith, subst, ◌≡◌, ℕ, ◌<◌}
+use Rattle.std.proofs.Common.{rules, arith, subst, ℕ}
 use Rattle.bag_rule.specs.Plays.{GotList, MissedList}
 use Rattle.bag_rule.proofs.Taking.{list_takes}
 use Rattle.bag_rule.proofs.steps.list_take.Goals as goal

@@ -1,4 +1,4 @@
-use Rattle.std.proofs.Common.{rules, arith, sym, refl, subst, ◌≡◌, List}
+use Rattle.std.proofs.Common.{rules, arith, sym, refl, subst, ◌≡◌}
 use Rattle.std.specs.Prelude.{Some}
 use Rattle.atomic_table.specs.Table.{Joins}
 use Rattle.passes.specs.Holders.{Meet}

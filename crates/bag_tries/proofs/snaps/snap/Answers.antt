@@ -1,4 +1,4 @@
-use Rattle.std.proofs.Common.{rules, arith, ◌≡◌, ◌≤◌, sym, ◌∙◌, ap}
+use Rattle.std.proofs.Common.{rules, arith, ◌≡◌, ◌≤◌, sym, ◌∙◌}
 use Rattle.bag_tries.specs.Snaps.{Gathers, numbers_of}
 use Rattle.bag_tries.proofs.Gathering.{all_shown}
 use Rattle.bag_tries.proofs.snaps.snap.Goals as goal

@@ -1,4 +1,4 @@
-use Rattle.std.proofs.Common.{rules, arith, ap, ◌∙◌, ◌<◌, subst, sym, ℕ}
+use Rattle.std.proofs.Common.{rules, arith, ap, subst, ℕ}
 use Rattle.ho_model.specs.declared.marks.CallMark.TheVariants.{Take}
 use Rattle.ho_model.specs.declared.marks.ReplyMark.TheVariants as reply
 use Rattle.ho_model.specs.Entries.{entry}

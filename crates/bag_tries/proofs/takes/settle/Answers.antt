@@ -1,4 +1,4 @@
-use Rattle.std.proofs.Common.{rules, arith, ap, ◌∙◌, ◌<◌, ◌≡◌, ◌≢◌, inl}
+use Rattle.std.proofs.Common.{rules, arith, ap, ◌≡◌, ◌≢◌, inl}
 use Rattle.bag_rule.specs.Plays.{Sits}
 use Rattle.bag_tries.proofs.Hands.{own_in_hand}
 use Rattle.bag_tries.proofs.Settling.{left_looked, some_items, settles_empty}
@@ -13,10 +13,13 @@ leave_list-requires-clause-hand g c κs within = let e = c.look_again-word.ensur
     own_in_hand c.args.seat.now.me c.args.caller c.requires.own (search (rules, arith)) c.look_again-word.new.seat.me (ap (λ (z : Sits). z.0.keeps) e.3) (ap (λ (z : Sits). z.1) e.3)
 
 pub returns-then-skipped-clause-told : goal.returns-then-skipped-clause-told
-returns-then-skipped-clause-told g c = let e = c.look_again-word.ensures.read in
-    (c.if-skipped.true, e.0, e.1,
-      left_looked g.T.Item.priority_of c.args.seat.now.me c.args.caller c.requires.own c.requires.may.0.0 e.0 e.1 c.look_again-word.new.seat.me c.leave_list.new.seat.me c.requires.may.1 e.3 c.leave_list.ensures.left,
-      some_items _ e.0 e.1 e.2 c.if-word-eq0.false)
+returns-then-skipped-clause-told g c = let e = c.look_again-word.ensures.read in (
+  c.if-skipped.true,
+  e.0,
+  e.1,
+  left_looked g.T.Item.priority_of c.args.seat.now.me c.args.caller c.requires.own c.requires.may.0.0 e.0 e.1 c.look_again-word.new.seat.me c.leave_list.new.seat.me c.requires.may.1 e.3 c.leave_list.ensures.left,
+  some_items _ e.0 e.1 e.2 c.if-word-eq0.false,
+)
 
 pub returns-else-skipped-clause-told : goal.returns-else-skipped-clause-told
 returns-else-skipped-clause-told g c = let e = c.look_again-word.ensures.read in

@@ -35,7 +35,7 @@ returns-in-Stolen-clause-told g c = let e = c.begin-word.ensures.read in let s =
     let idle : b.0.joint ≡ None = ap (λ (z : Sits). z.0.joint) e.3 ∙ c.requires.may.0.0 in
     let entry = item_entry pr g.T.Item.mark c.args.caller c.in-Stolen.item c.in-Stolen.from in
     lift_entry pr c.args.seat.now.me.0 b.0 (Event e.0 e.1 ∷ []) (began_later c.args.seat.now.me.0 b.0 e.0 e.1 (ap (λ (z : Sits). z.0) e.3)) c.leave_list.new.seat.me entry c.in-Stolen.place
-        (left_robbed pr b c.args.caller own idle entry c.in-Stolen.place s.0 s.1 s.2 c.look_round.new.seat.me c.leave_list.new.seat.me s.3 s.4 c.leave_list.ensures.left)
+    (left_robbed pr b c.args.caller own idle entry c.in-Stolen.place s.0 s.1 s.2 c.look_round.new.seat.me c.leave_list.new.seat.me s.3 s.4 c.leave_list.ensures.left)
 
 pub returns-in-Bare-clause-told : goal.returns-in-Bare-clause-told
 returns-in-Bare-clause-told g c = let e = c.begin-word.ensures.read in let r = c.in-Bare.ensures.told in

@@ -1,8 +1,6 @@
-use Rattle.std.proofs.Common.{refl, sym, ap, ◌∙◌, subst, rules, arith, [], ◌∷◌, ◌≡◌}
+use Rattle.std.proofs.Common.{sym, subst, rules, [], ◌∷◌}
 use Rattle.bag_rule.specs.Plays.{Sits, GotList}
-use Rattle.bag_rule.specs.Seats.{front_of}
 use Rattle.bag_rule.specs.declared.view.Obstacle.TheVariants.{Bare}
-use Rattle.bag_rule.specs.declared.view.View.{View}
 use Rattle.bag_rule.proofs.Joining.{free_hand}
 use Rattle.bag_tries.specs.Takes.{item_entry}
 use Rattle.bag_tries.specs.Seats.{HasRead}

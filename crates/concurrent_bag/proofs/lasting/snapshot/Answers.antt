@@ -1,4 +1,4 @@
-use Rattle.std.proofs.Common.{rules, ◌≡◌, sym, ◌∙◌}
+use Rattle.std.proofs.Common.{rules, ◌≡◌}
 use Rattle.passes.specs.Numbers.{HasNumber}
 use Rattle.concurrent_bag.proofs.Fields.{lacks}
 use Rattle.concurrent_bag.proofs.lasting.snapshot.Goals as goal

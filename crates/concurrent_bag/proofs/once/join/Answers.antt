@@ -1,4 +1,4 @@
-use Rattle.std.proofs.Common.{rules, ◌≡◌, ◌∷◌, [], sym, ap, ◌∙◌, subst}
+use Rattle.std.proofs.Common.{rules, ◌≡◌, ◌∷◌, [], sym, ◌∙◌, subst}
 use Rattle.bag_rule.specs.Views.{joined, told}
 use Rattle.concurrent_bag.proofs.Fields.{Agree, agree_of, pass_of, joined_agrees}
 use Rattle.concurrent_bag.proofs.once.join.Goals as goal
@@ -13,5 +13,5 @@ returns-clause-pass g c =
     let views : c.into_badge.result.views ≡ told (joined v w) ∷ [] = search rules in
     let table : c.into_badge.result.table_id ≡ c.args.badge.now.table_id = search rules in
     pass_of c.into_badge.result (told (joined v w)) c.take_in-2.new.self views
-        (subst (λ z. Agree z (told (joined v w)) c.take_in-2.new.self) (sym table)
-        (joined_agrees c.args.badge.now.table_id v w c.args.numbers.now c.args.other_numbers c.take_in-2.new.self a (subst (λ z. Agree z w c.args.other_numbers) same b) c.take_in-2.ensures))
+    (subst (λ z. Agree z (told (joined v w)) c.take_in-2.new.self) (sym table)
+    (joined_agrees c.args.badge.now.table_id v w c.args.numbers.now c.args.other_numbers c.take_in-2.new.self a (subst (λ z. Agree z w c.args.other_numbers) same b) c.take_in-2.ensures))

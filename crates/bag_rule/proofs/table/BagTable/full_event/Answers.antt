@@ -1,7 +1,4 @@
-use Rattle.std.proofs.Common.{refl, ap, ◌∙◌, subst, sym}
-use Rattle.ho_model.specs.Entries.{entry}
-use Rattle.ho_model.specs.declared.marks.CallMark.TheVariants.{Add}
-use Rattle.ho_model.specs.declared.marks.ReplyMark.TheVariants.{Full}
+use Rattle.std.proofs.Common.{refl, ap, ◌∙◌, sym}
 use Rattle.bag_rule.specs.Views.{hand_at}
 use Rattle.bag_rule.proofs.Object.{full_does}
 use Rattle.bag_rule.proofs.Asks.{made_entered}

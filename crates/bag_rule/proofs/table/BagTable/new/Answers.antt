@@ -1,4 +1,4 @@
-use Rattle.std.proofs.Common.{◌≡◌, ◌∙◌, replicate, subst, sym, List, ℕ, refl, rules}
+use Rattle.std.proofs.Common.{◌≡◌, ◌∙◌, replicate, subst, sym, List, ℕ}
 use Rattle.ho_base.specs.Marks.{Mark}
 use Rattle.atomic_table.specs.Table.{opening}
 use Rattle.bag_rule.specs.Words.{word_count}
