@@ -2,6 +2,8 @@ pub mod Calls
 pub mod Kept
 pub mod Passes
 pub mod Answers
+pub mod Seats
+pub mod Tries
 -- what the clauses of the public calls cite from below
 pub use Rattle.ho_base.specs.Marks
 pub use Rattle.ho_model.specs.Entries
@@ -13,3 +15,4 @@ pub use Rattle.passes.specs.Views as PassViews
 pub use Rattle.passes.specs.Calls as PassCalls
 pub use Rattle.passes.specs.Repeats
 pub use Rattle.turn_lock.specs.Passes as LockPasses
+pub use Rattle.bag_tries.specs.Causes

@@ -1,43 +1,28 @@
 // The bag that callers share.
 ghost use Rattle.std.specs.Prelude.{◌≡◌, ◌<◌, ◌≤◌, IfOk};
 
-use crate::calls::{BagCall, BagReply};
-use crate::machine::BagMachine;
+use crate::answers::{BagAdd, BagAddOnce, BagTake, BagTakeOnce};
 use crate::pass::BagPass;
+use crate::{lasting, once};
+use bag_rule::BagTable;
 use ho_base::{Item, NoMemory, Receipt, Unpaid};
 use ho_model::Items;
+use passes::Numbers;
 use std::alloc::Global;
 use std::marker::Model;
 use std::sync::Wait;
-use turn_lock::Shared;
-
-/// What an add comes to.
-#[derive(Debug, PartialEq, Eq, Drop)]
-pub enum BagAdd<T> {
-    /// The item stands last in the caller's list.
-    Done,
-    /// The caller's list has as many items as a list may have. The item comes back.
-    Full(T),
-}
-
-/// What a take comes to.
-#[derive(Debug, PartialEq, Eq, Drop)]
-pub enum BagTake<T> {
-    /// An item, and the caller in whose list it was.
-    Item { from: u32, item: T },
-    /// There is no item.
-    Empty,
-}
 
 /// An unordered collection that up to 64 callers share, with a list for each, after .NET's
 /// `ConcurrentBag<T>`. To a contract it is its table.
 ///
-/// A call waits for the others that call, and for nothing else. An answer counts one call of the
-/// caller, and want of memory at most one. As the bag is built, a caller whose count is 2^48 waits for
-/// good: no contract speaks of that. The receipt of each entry is its place in the bag's history.
+/// A caller adds to its own list and takes from it first; the lists of others it only tries. A call
+/// holds a list while it changes it, and makes its entry at one step of a word that all share. So
+/// callers wait for each other at a list, and not at the bag. An answer counts one call of the caller,
+/// and no other end of a call counts. A caller makes at most 2^37 calls: one more waits for good, or
+/// is `Spent`. The receipt of each entry is its place in the bag's history.
 #[derive(Drop)]
 pub struct ConcurrentBag<T: Item> {
-    shared: Shared<BagMachine<T>>,
+    table: BagTable<T>,
 }
 
 impl<T: Item> Model for ConcurrentBag<T> {
@@ -47,7 +32,7 @@ impl<T: Item> Model for ConcurrentBag<T> {
 
     ghost coded = { table_id_coded };
 
-    ghost view = { λ b. b.shared };
+    ghost view = { λ b. b.table };
 }
 
 impl<T: Item> ConcurrentBag<T> {
@@ -57,16 +42,20 @@ impl<T: Item> ConcurrentBag<T> {
     ghost use Rattle.passes.specs.Numbers.{held_count};
     ghost use Rattle.passes.specs.Calls.{Splits, Joins};
     ghost use Rattle.concurrent_bag.specs.Passes.{Answers, first_of};
-    ghost use Rattle.concurrent_bag.specs.Answers.{Ends, Adds, Snaps, take_mark};
+    ghost use Rattle.concurrent_bag.specs.Answers.{Adds, Snaps, take_mark};
+    ghost use Rattle.concurrent_bag.specs.Tries.{AddsOnce, TakesOnce};
 
     /// A bag without items for 1 to 64 callers, and the first pass, which holds all numbers.
     pub fn new(alloc: Global, callers: u32) -> Result<(ConcurrentBag<T>, BagPass), NoMemory>
         requires callers { (0 < callers) × (callers ≤ 64) }
         ensures { IfOk result (λ made. made.1 ≡ first_of made.0 callers) }
     {
-        let machine = BagMachine::new(alloc, callers)?;
-        let (shared, pass) = Shared::new(alloc, machine, callers)?;
-        Ok((ConcurrentBag { shared }, BagPass { pass }))
+        let (table, seat) = BagTable::new(alloc, callers)?;
+        let pass = BagPass {
+            badge: seat.into_badge(),
+            numbers: Numbers::first(callers),
+        };
+        Ok((ConcurrentBag { table }, pass))
     }
 
     /// Splits off a pass with the least number that can be given away, which has seen as much.
@@ -77,9 +66,8 @@ impl<T: Item> ConcurrentBag<T> {
         requires spare { 1 < held_count pass.old.held }
         ensures { Splits pass.old pass.new result }
     {
-        BagPass {
-            pass: self.shared.split(&mut pass.pass),
-        }
+        let (badge, numbers) = once::split(&self.table, &mut pass.badge, &mut pass.numbers);
+        BagPass { badge, numbers }
     }
 
     /// Takes in another pass of the same bag, with its numbers.
@@ -90,8 +78,14 @@ impl<T: Item> ConcurrentBag<T> {
         requires table { (pass.old.table ≡ self.now) × (other.table ≡ self.now) }
         ensures { Joins T.priority_of pass.old other pass.new }
     {
-        let BagPass { pass: other } = other;
-        self.shared.join(&mut pass.pass, other)
+        let BagPass { badge, numbers } = other;
+        once::join(
+            &self.table,
+            &mut pass.badge,
+            &mut pass.numbers,
+            badge,
+            numbers,
+        )
     }
 
     /// Puts an item last in the caller's own list, if that has room (`Add`). A list has room for 16,383
@@ -105,19 +99,15 @@ impl<T: Item> ConcurrentBag<T> {
         requires { pass.old.table ≡ self.now }
         ensures { Adds T.priority_of T.mark pass.old pass.new item result }
     {
-        match self.call(rt, pass, BagCall::Add(item)) {
-            Ok((reply, receipt)) => match reply {
-                BagReply::Done => Ok((BagAdd::Done, receipt)),
-                BagReply::Full(back) => Ok((BagAdd::Full(back), receipt)),
-                _ => unreachable!(),
-            },
-            Err(
-                Unpaid {
-                    back: BagCall::Add(back),
-                },
-            ) => Err(Unpaid { back }),
-            Err(_) => unreachable!(),
-        }
+        lasting::add(rt, &self.table, &mut pass.badge, &mut pass.numbers, item)
+    }
+
+    /// Tries to add an item once: it makes no second try where another caller holds the own list.
+    pub fn add_once(&self, pass: &mut BagPass, item: T) -> BagAddOnce<T>
+        requires { pass.old.table ≡ self.now }
+        ensures { AddsOnce T.priority_of T.mark pass.old pass.new item result }
+    {
+        once::add(&self.table, &mut pass.badge, &mut pass.numbers, item)
     }
 
     /// Takes the last item of the caller's own list or, where that has none, the first item of
@@ -127,30 +117,28 @@ impl<T: Item> ConcurrentBag<T> {
         ensures { Answers T.priority_of pass.old
             (entry pass.old.caller callmark.Take (take_mark T.mark result.0)) result.1 pass.new }
     {
-        match self.call(rt, pass, BagCall::Take) {
-            Ok((reply, receipt)) => match reply {
-                BagReply::Item { from, item } => (BagTake::Item { from, item }, receipt),
-                BagReply::Empty => (BagTake::Empty, receipt),
-                _ => unreachable!(),
-            },
-            Err(_) => unreachable!(),
-        }
+        lasting::take(rt, &self.table, &mut pass.badge, &mut pass.numbers)
     }
 
-    /// Counts the items (`Count`). Takes no memory.
+    /// Tries to take an item once: it looks into each list at most once. Takes no memory.
+    pub fn take_once(&self, pass: &mut BagPass) -> BagTakeOnce<T>
+        requires { pass.old.table ≡ self.now }
+        ensures { TakesOnce T.priority_of T.mark pass.old pass.new result }
+    {
+        once::take(&self.table, &mut pass.badge, &mut pass.numbers)
+    }
+
+    /// Counts the items (`Count`), at one step. Takes no memory.
     pub fn count<R: Wait>(&self, rt: &R, pass: &mut BagPass) -> (u64, Receipt)
         requires { pass.old.table ≡ self.now }
         ensures { Answers T.priority_of pass.old
             (entry pass.old.caller callmark.Count (Counted result.0)) result.1 pass.new }
     {
-        match self.call(rt, pass, BagCall::Count) {
-            Ok((BagReply::Count(count), receipt)) => (count, receipt),
-            _ => unreachable!(),
-        }
+        lasting::count(rt, &self.table, &mut pass.badge, &mut pass.numbers)
     }
 
     /// The numbers of all items, the lists in the order of their callers, each from its oldest item
-    /// (`ToArray`). For want of memory there is no entry.
+    /// (`ToArray`). It holds all lists at once. For want of memory there is no entry.
     pub fn snapshot<R: Wait>(
         &self,
         rt: &R,
@@ -160,27 +148,6 @@ impl<T: Item> ConcurrentBag<T> {
         requires { pass.old.table ≡ self.now }
         ensures { Snaps T.priority_of pass.old pass.new result }
     {
-        // behind a turn the bag takes the memory, by the allocator that it keeps
-        let _ = alloc;
-        match self.call(rt, pass, BagCall::Snap) {
-            Ok((reply, receipt)) => match reply {
-                BagReply::Numbers(numbers) => Ok((numbers, receipt)),
-                _ => unreachable!(),
-            },
-            Err(_) => Err(NoMemory),
-        }
-    }
-
-    /// Waits for the turn, and makes the call.
-    fn call<R: Wait>(
-        &self,
-        rt: &R,
-        pass: &mut BagPass,
-        call: BagCall<T>,
-    ) -> Result<(BagReply<T>, Receipt), Unpaid<BagCall<T>>>
-        requires { pass.old.table ≡ self.now }
-        ensures { Ends T.priority_of T.mark pass.old pass.new call result }
-    {
-        self.shared.call(rt, &mut pass.pass, call)
+        lasting::snapshot(rt, alloc, &self.table, &mut pass.badge, &mut pass.numbers)
     }
 }

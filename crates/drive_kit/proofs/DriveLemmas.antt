@@ -188,7 +188,7 @@ may_play plan n on pass of first some are = record {
 
 shown : (plan : Plan) (h : List Entry) (on : Stand) (pass : DrivenPass) → IsOf on pass → IsWholePass plan (pass_of pass) → HasSeen plan h (pass_of pass) → IsShown plan h pass
 shown plan h on (driven.Turn p) of whole seen = (whole, seen)
-shown plan h on (driven.Bag p) of whole seen = (whole, seen)
+shown plan h on (driven.Bag p) of whole seen = (record { object = whole.object; callers = whole.callers; whole = whole.whole }, seen)
 shown plan h (stand.Channel table) (driven.Queue p) of whole seen = absurd of
 shown plan h (stand.Blocking table) (driven.Queue p) of whole seen = absurd of
 shown plan h (stand.Queue table) (driven.Queue p) of whole seen = absurd of

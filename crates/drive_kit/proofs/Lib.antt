@@ -4,6 +4,7 @@ pub mod DriveLemmas
 pub mod HistoryLemmas
 pub mod NumberLemmas
 pub mod OrderLemmas
+pub mod PassLemmas
 pub mod PlanLemmas
 pub mod PlayLemmas
 pub mod ReadingLemmas

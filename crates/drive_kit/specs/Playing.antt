@@ -18,7 +18,7 @@ use Rattle.ho_model.specs.Written.{call_of, entry_of}
 use Rattle.passes.specs.Numbers.{HasNumber}
 use Rattle.passes.specs.Places.{Placed, own_places}
 use Rattle.passes.specs.Seen.{SeesEntry, IsLawful}
-use Rattle.passes.specs.Views.{first_pass}
+use Rattle.passes.specs.Views.{PassView, first_pass}
 use Rattle.turn_lock.specs.Passes.{LockPass}
 use Rattle.drive_kit.specs.Calls.{kind_of}
 use Rattle.drive_kit.specs.Plans.{IsRowOf, calls_by}
@@ -31,11 +31,15 @@ use Rattle.drive_kit.specs.declared.stands.DrivenPass.TheVariants.{Turn, Queue, 
 use Rattle.drive_kit.specs.declared.stands.Stand.{Stand}
 use Rattle.drive_kit.specs.declared.stands.Stand.TheVariants as stand
 
+-- what passes of all objects have in common: the obstacles that tries met are left out
+abbrev pub without_obstacles : {O : Type 0} → PassView O → LockPass
+without_obstacles p = record { table = p.table; object = p.object; callers = p.callers; caller = p.caller; held = p.held; made = p.made; seen = p.seen; met = [] }
+
 -- what contracts see of the pass, whichever object it is of
 abbrev pub pass_of : DrivenPass → LockPass
 pass_of (Turn p) = p
 pass_of (Queue p) = p.pass
-pass_of (Bag p) = p
+pass_of (Bag p) = without_obstacles p
 
 -- the pass is of this object, and of its kind
 abbrev pub IsOf : Stand → DrivenPass → Type 0

@@ -23,7 +23,7 @@ const LONGEST: u64 = 1_000;
 /// Pauses that double up to a longest, then short sleeps, and then sleeps that double up to a longest.
 /// It takes no memory.
 ///
-/// A spin is an addition to a word of its own, which takes some 20 cycles on every processor. The processor's
+/// A spin is an addition to a word of its own, which takes some 20 cycles on most processors. The processor's
 /// own pause takes 10 to 140, so that pauses of as many would last ten times as long on one as on another.
 ///
 /// A thread that sleeps gets its core back soon after. One that yields it to other programs may wait

@@ -7,7 +7,7 @@ ghost use Rattle.ho_model.specs.Written.{giving, mark_of};
 ghost use Rattle.ho_model.specs.declared.histories.Call.TheVariants as calls;
 ghost use Rattle.concurrent_bag.specs.Answers.{take_mark};
 ghost use Rattle.drive_kit.specs.Calls.{IsCallOf, kind_of};
-ghost use Rattle.drive_kit.specs.Playing.{Adds, IsOf, pass_of};
+ghost use Rattle.drive_kit.specs.Playing.{Adds, IsOf, pass_of, without_obstacles};
 ghost use Rattle.drive_kit.specs.declared.calls.Kind.TheVariants as kind;
 ghost use Rattle.drive_kit.specs.declared.stands.Stand.TheVariants as stand;
 
@@ -19,6 +19,7 @@ use std::alloc::Global;
 use std::sync::Wait;
 
 // Adds an item to the caller's list.
+#[tactic(auto, using(crate::proofs::PassLemmas::same_without))]
 fn add<R: Wait>(
     rt: &R,
     bag: &ConcurrentBag<u64>,
@@ -27,8 +28,9 @@ fn add<R: Wait>(
 ) -> Result<(Reply, Receipt), NoMemory>
     requires table { pass.old.table ≡ bag.now }
     requires kind { kind_of pass.old.object ≡ kind.Bag }
-    ensures same { IsSamePass pass.old pass.new }
-    ensures adds { IfOk result (λ said. Adds pass.old (calls.Add item) said.0 said.1 pass.new) }
+    ensures same { IsSamePass (without_obstacles pass.old) (without_obstacles pass.new) }
+    ensures adds { IfOk result (λ said. Adds (without_obstacles pass.old)
+        (calls.Add item) said.0 said.1 (without_obstacles pass.new)) }
 {
     match bag.add(rt, pass, item) {
         Ok((BagAdd::Done, receipt)) => Ok((Reply::Done, receipt)),
@@ -48,6 +50,7 @@ fn taken(said: BagTake<u64>) -> Reply
 }
 
 // Makes a call of a script on a bag.
+#[tactic(auto, using(crate::proofs::PassLemmas::same_without))]
 pub(super) fn play<R: Wait>(
     rt: &R,
     alloc: Global,
@@ -58,8 +61,9 @@ pub(super) fn play<R: Wait>(
     requires table { pass.old.table ≡ bag.now }
     requires kind { kind_of pass.old.object ≡ kind.Bag }
     requires call { IsCallOf kind.Bag call }
-    ensures same { IsSamePass pass.old pass.new }
-    ensures adds { IfOk result (λ said. Adds pass.old call said.0 said.1 pass.new) }
+    ensures same { IsSamePass (without_obstacles pass.old) (without_obstacles pass.new) }
+    ensures adds { IfOk result (λ said. Adds (without_obstacles pass.old) call said.0 said.1
+        (without_obstacles pass.new)) }
 {
     match call {
         Call::Add(item) => add(rt, bag, pass, item),
@@ -80,11 +84,13 @@ pub(super) fn play<R: Wait>(
 }
 
 // Splits off a pass with the least number that can be given away. Takes no memory.
+#[tactic(auto, using(crate::proofs::PassLemmas::splits_without))]
 pub(super) fn split(bag: &ConcurrentBag<u64>, pass: &mut BagPass) -> BagPass
     requires table { pass.old.table ≡ bag.now }
     requires spare { 1 < held_count pass.old.held }
     ensures inside { result.caller < 64 }
-    ensures splits { Splits pass.old pass.new result }
+    ensures splits { Splits (without_obstacles pass.old) (without_obstacles pass.new)
+        (without_obstacles result) }
 {
     let other = bag.split(pass);
     // for the proof: it tells that the number is below 64
@@ -93,6 +99,7 @@ pub(super) fn split(bag: &ConcurrentBag<u64>, pass: &mut BagPass) -> BagPass
 }
 
 // Takes in another pass of the bag, with its numbers. Takes no memory.
+#[tactic(auto, using(crate::proofs::PassLemmas::joins_without))]
 pub(super) fn take_in(bag: &ConcurrentBag<u64>, pass: &mut DrivenPass, other: DrivenPass)
     requires { IsOf (stand.Bag bag.now) pass.old × IsOf (stand.Bag bag.now) other }
     ensures of { IsOf (stand.Bag bag.now) pass.new }

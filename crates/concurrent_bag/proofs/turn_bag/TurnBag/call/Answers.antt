@@ -2,7 +2,7 @@ use Rattle.std.proofs.Common.{subst}
 use Rattle.turn_lock.specs.Passes.{LockPass}
 use Rattle.concurrent_bag.specs.Answers.{Ends}
 use Rattle.concurrent_bag.proofs.Behind.{ends}
-use Rattle.concurrent_bag.proofs.bag.ConcurrentBag.call.Goals as goal
+use Rattle.concurrent_bag.proofs.turn_bag.TurnBag.call.Goals as goal
 
 pub returns : goal.returns
 returns g c =

@@ -1,0 +1,12 @@
+pub mod Lists
+pub mod Words
+pub mod Object
+pub mod Laws
+pub mod Loads
+pub mod Taking
+pub mod Leaving
+pub mod Events
+pub mod Quiets
+pub mod Joining
+pub mod Starts
+pub mod Asks
