@@ -1,5 +1,5 @@
 -- What contracts see of the pass of a queue's table, and how its fields mirror that.
-use Rattle.std.specs.Prelude.{◌≡◌, ℕ, ◌%◌, ◌^◌, ◌<◌, ◌≤◌, true, [], None, IfSome}
+use Rattle.std.specs.Prelude.{◌≡◌, ℕ, ◌%◌, ◌^◌, ◌<◌, ◌≤◌, true, [], Some, None, IfSome}
 use Rattle.atomic_table.specs.Seated.{TableId}
 use Rattle.atomic_table.specs.Table.{Me}
 use Rattle.passes.specs.Numbers.{NumbersView}
@@ -21,7 +21,7 @@ use Rattle.seg_layout.specs.Lengths.{places_of, longest_of}
 use Rattle.seg_rule.specs.Loads.{has_turn}
 use Rattle.passes.specs.Numbers.{IsSpare}
 use Rattle.seg_rule.specs.Plays.{TellsJoin}
-use Rattle.seg_rule.specs.Steps.{without, alone, joined, MayReserve, Reserves, MayTake, Takes}
+use Rattle.seg_rule.specs.Steps.{without, alone, joined, MayReserve, Reserves, MayTake, Takes, front_of}
 use Rattle.seg_rule.specs.Tells.{place_count, slot_count}
 
 -- the pass is of this table, and knows this
@@ -137,7 +137,7 @@ abbrev pub MayTakeAt : View → ℕ → ℕ → Type 0
 MayTakeAt v h y = (q i : ℕ) × MayTake v h q i y
 
 abbrev pub TakesAt : View → ℕ → ℕ → View → Type 0
-TakesAt v h y w = (q i : ℕ) × Takes v h q i y w
+TakesAt v h y w = (q i : ℕ) × (v.notes.front ≡ Some (front_of h q i y)) × Takes v h q i y w
 
 -- Which step the hand waits for.
 

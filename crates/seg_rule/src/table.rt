@@ -4,6 +4,7 @@ ghost use Rattle.seg_rule.specs.declared.view.Hand.TheVariants.{Nothing};
 ghost use Rattle.seg_rule.specs.declared.view.Stage.TheVariants.{Away, Plain, Preparing, Opened, Linked};
 ghost use Rattle.passes.specs.Numbers.{held_count};
 ghost use Rattle.seg_rule.specs.Steps.{in_hand, stored_hand, on_leave, released, on_stage, opened_stage, begun_stage, more_stage, linked_stage, MayBegin, MayNumber, MayShow, IsAtRest, MissesTail, MissesHead, MayTurn, turned, MissesTurn, MayClose, closed_at, first_view};
+ghost use Rattle.seg_rule.specs.Rule.{IsShape};
 ghost use Rattle.seg_layout.specs.Lengths.{IsFirstLength, longest_of, places_of};
 ghost use Rattle.seg_rule.specs.Loads.{MayMove, first_moved};
 ghost use Rattle.seg_rule.specs.declared.word.QueueWord.TheVariants.{Head, Tail};
@@ -84,6 +85,14 @@ impl QueueTable {
             }
             Err(_) => Err(NoMemory),
         }
+    }
+
+    /// The parameters of the queue.
+    pub fn form(&self) -> Form
+        ensures value { result ≡ self.now.form }
+        ensures shape { IsShape self.now.form }
+    {
+        self.form
     }
 
     /// Stores the item of the position that was reserved into its slot.
