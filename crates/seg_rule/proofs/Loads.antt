@@ -1,5 +1,5 @@
 -- A load of any word keeps the rule.
-use Rattle.std.proofs.Common.{◌≡◌, ◌≢◌, ℕ, zero, suc, ◌+◌, ◌*◌, ◌<◌, ◌≤◌, inl, ⊎_elim, eqb, cond, Bool, true, false, true≢false, ◌&&◌, List, [], ◌∷◌, ◌++◌, set, sym, refl, ap, ◌∙◌, subst, arith, le_refl, eq-eqb, ne_eqb, slice_get}
+use Rattle.std.proofs.Common.{◌≡◌, ◌≢◌, ℕ, zero, suc, ◌+◌, ◌*◌, ◌<◌, ◌≤◌, inl, ⊎_elim, eqb, cond, Bool, true, false, true≢false, ◌&&◌, List, [], ◌∷◌, ◌++◌, set, sym, refl, ap, ◌∙◌, subst, arith, le_refl, le_trans, eq-eqb, ne_eqb, slice_get}
 use Rattle.std.proofs.lemmas.Bool.{cond_both, and_parts, eqb-true, cases_eq}
 use mathlib.Core.Option.{some}
 use lib.ListN.{get_elem?}
@@ -22,10 +22,11 @@ use Rattle.seg_rule.specs.declared.view.Hand.TheVariants.{Nothing, Reserved, Sto
 use Rattle.seg_rule.specs.declared.view.Stage.{Stage}
 use Rattle.seg_rule.specs.declared.view.Stage.TheVariants.{Away, Plain, Closed, Found, Preparing, Opened, Linked, Observing}
 use Rattle.seg_rule.specs.Words.{Memory, IsWord}
-use Rattle.seg_rule.specs.Rule.{Ghosts, IsShape, IsWhole, HeadNote, TailFact, tail_word, CandidateSeen, WindowOk, WindowFact, StageOk, ViewOk, Kept, in_range, flag}
+use Rattle.seg_rule.specs.Slots.{Cell}
+use Rattle.seg_rule.specs.Rule.{Ghosts, Shows, HandOk, IsShape, IsWhole, HeadNote, TailFact, tail_word, CandidateSeen, WindowOk, WindowFact, StageOk, ViewOk, Kept, in_range, flag}
 use Rattle.seg_rule.specs.Steps.{in_hand, blank}
 use Rattle.seg_rule.specs.declared.view.OpenTail.{OpenTail}
-use Rattle.seg_rule.specs.Tells.{IsAbove, Told, IsInFlight, Sees, is_idle, sees_in_flight, places_in, slots_in, room_in, first_len_in, place_count, slot_count}
+use Rattle.seg_rule.specs.Tells.{IsAbove, IsFrom, Told, IsInFlight, Sees, is_idle, sees_in_flight, places_in, slots_in, room_in, first_len_in, place_count, slot_count}
 use Rattle.seg_layout.specs.Lengths.{IsSegmentLength}
 use Rattle.seg_rule.specs.Plays.{Reads}
 use Rattle.seg_rule.specs.Loads.{is_read, is_slot_of, is_front_slot, is_free_by, has_turn, hand_at, leave_by, measured_by, is_spent_at, found_at, after_note, obstacles, noted, is_at_rest, begins_call, begun, told, loaded}
@@ -33,7 +34,7 @@ use Rattle.seg_rule.proofs.Tails.{tail_even}
 use Rattle.seg_rule.proofs.Begins.{begins_kept}
 use Rattle.seg_rule.proofs.Leaves.{leave_given, leave_refused, sized_kept}
 use Rattle.seg_rule.proofs.Looks.{entry_grows, entry_turn, own_kept, look_kept}
-use Rattle.seg_rule.proofs.Chains.{rises}
+use Rattle.seg_rule.proofs.Chains.{rises, numbers_high}
 use Rattle.seg_rule.proofs.Object.{got}
 use Rattle.seg_rule.proofs.Stays.{if_some}
 use Rattle.seg_rule.proofs.Frames.{kept_after}
@@ -242,6 +243,21 @@ module _ (f : Form) (m : Memory) (views : List View) (id : ℕ) (v : View) (k : 
   head_told p x near now None n = tt
   head_told p x near now (Some h) n = λ t is. let e = (tail_even ghosts.segs ghosts.last ghosts.put ghosts.shut (ghosts.home p) t (sym (k.words.tails p near) ∙ (now ∙ is)) k.words.turns.bit).1 in let l = n.0 in let b = k.words.counts.behind in omega arith
 
+  -- a slot of a place lies so many times the first length from 0 as its segment word says
+  segment_before : (p x : ℕ) → m (Segment p) ≡ x → (q i a : ℕ) → q ≡ p → (n : ℕ) → Shows ghosts q i n → (ghosts.cells q i).0 ≡ a → x * first_len_in v.object ≤ a
+  segment_before p x now q i a here n s cell =
+      let number : x ≡ n = sym now ∙ (ap (λ z. m (Segment z)) (sym here) ∙ (k.words.places q n s.0 s.1).2) in
+      let high : n * f.first_len ≤ (ghosts.segs n).start = numbers_high ghosts.segs ghosts.low ghosts.last ghosts.taken ghosts.put k.words.chain f.first_len (λ b l. (k.words.ranges.lengths b l).0) n (k.words.homes.there q n s.0).0 in
+      let from : (ghosts.segs n).start ≤ (ghosts.cells q i).0 = (k.words.slots q n i s.0 s.1 s.2).begins in
+      subst (λ (z : ℕ × ℕ). z.0 ≤ z.1) (λ j. ((sym number j) * first_len_in (sym own.of_object j), cell j)) (le_trans high from)
+
+  -- of a position that is in hand, the segments before its own
+  segment_told : (p x : ℕ) → m (Segment p) ≡ x → (h : Hand) → HandOk ghosts id (HasNumber v.held v.caller) v.caller h → IsFrom p (x * first_len_in v.object) h
+  segment_told p x now Nothing o = tt
+  segment_told p x now (Reserved a q i y) o = λ here. segment_before p x now q i a here o.1.0 o.1.1 (ap (λ (z : Cell). z.0) o.2)
+  segment_told p x now (Stored a q i y) o = λ here. segment_before p x now q i a here o.1.0 o.1.1 (ap (λ (z : Cell). z.0) o.2)
+  segment_told p x now (Taking a q i l) o = tt
+
   pub reads_told : IsShape f → (w : QueueWord) (x : ℕ) → IsWord f.places f.slots w → m w ≡ x → Told w x v
   reads_told s Head x near now = (at_head x now v.notes.head own.notes.head, if_some (λ h. h < ghosts.taken) (λ h. h < x) (λ h l. let e = k.words.counts.head_is in omega arith) v.notes.gone own.notes.gone, (let b = (few_put f m ghosts k.words).1 in let e = k.words.counts.head_is in omega arith), room_told x now v.notes.tail own.notes.tail)
   reads_told s Turn x near now = tt
@@ -253,7 +269,7 @@ module _ (f : Form) (m : Memory) (views : List View) (id : ℕ) (v : View) (k : 
   reads_told s (Observers p) x near now = tt
   reads_told s (Done p) x near now = tt
   reads_told s (Next p) x near now = subst (λ z. x < z) (sym (shaped s).0) (subst (λ z. z < f.places) now (k.words.nexts p (let l = near.0 in omega arith)))
-  reads_told s (Segment p) x near now = tt
+  reads_told s (Segment p) x near now = segment_told p x now v.hand own.hand
   reads_told s (Number p i) x near now = tt
   reads_told s (Item p i) x near now = tt
 

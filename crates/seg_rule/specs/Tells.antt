@@ -7,10 +7,10 @@ use Rattle.ho_model.specs.Tallies.{tally_of}
 use Rattle.passes.specs.Numbers.{HasNumber}
 use Rattle.passes.specs.Seen.{SeesOthers, IsLawful}
 use Rattle.seg_rule.specs.declared.word.QueueWord.{QueueWord}
-use Rattle.seg_rule.specs.declared.word.QueueWord.TheVariants.{Head, Current, First, Tail, Length, Next, Number}
+use Rattle.seg_rule.specs.declared.word.QueueWord.TheVariants.{Head, Current, First, Tail, Length, Next, Segment, Number}
 use Rattle.seg_rule.specs.declared.view.View.{View}
 use Rattle.seg_rule.specs.declared.view.Hand.{Hand}
-use Rattle.seg_rule.specs.declared.view.Hand.TheVariants.{Nothing}
+use Rattle.seg_rule.specs.declared.view.Hand.TheVariants.{Nothing, Reserved, Stored}
 use Rattle.ho_model.specs.declared.objects.Object.{Object}
 use Rattle.ho_model.specs.declared.objects.Object.TheVariants.{Queue}
 use Rattle.seg_layout.specs.Lengths.{IsSegmentLength, longest_of, places_of}
@@ -44,7 +44,13 @@ place_count v = places_in v.object v.callers
 abbrev pub slot_count : View → ℕ
 slot_count v = slots_in v.object
 
--- Beside what was read before: a noted tail is at most the room above the head, and an open tail at a noted head or above; the head stands above one that it stands above by now, no word of head or tail comes near its limit, places are those of the table, and lengths fit.
+-- a position that was enqueued in the place q, and is in hand, is this one or above
+abbrev pub IsFrom : ℕ → ℕ → Hand → Type 0
+IsFrom q least (Reserved p r i y) = r ≡ q → least ≤ p
+IsFrom q least (Stored p r i y) = r ≡ q → least ≤ p
+IsFrom q least _ = Unit {0}
+
+-- Beside what was read before: a noted tail is at most the room above the head, and an open tail at a noted head or above; the head stands above one that it stands above by now, no word of head or tail comes near its limit, places are those of the table, and lengths fit. Each segment that was opened before that of a position in hand has the first length at least.
 abbrev pub Told : QueueWord → ℕ → View → Type 0
 Told Head x v = IfSome v.notes.head (IsAbove v x) × IfSome v.notes.gone (λ h. h < x) × (x < 2 ^ 60) × IfSome v.notes.tail (λ o. o.position ≤ x + room_in v.object)
 Told Current x v = x < place_count v
@@ -52,6 +58,7 @@ Told First x v = x < place_count v
 Told (Tail p) x v = IfSome v.notes.tail (λ o. o.place ≡ p → (t : ℕ) → x ≡ 2 * t → IsAbove v t o.position) × (x < 2 ^ 60) × IfSome v.notes.head (λ h. (t : ℕ) → x ≡ 2 * t → h ≤ t)
 Told (Length p) x v = IsSegmentLength (first_len_in v.object) x × (2 ≤ x) × (x ≤ slot_count v)
 Told (Next p) x v = x < place_count v
+Told (Segment p) x v = IsFrom p (x * first_len_in v.object) v.hand
 Told _ x v = Unit {0}
 
 -- a pass with nothing in hand sees that the slot of the head, in the place where it lies, is free still
