@@ -85,8 +85,12 @@ module _ (f : Form) (m : Memory) (views : List View) (id : ℕ) (v : View) (k : 
   pub head_moved : (h : ℕ) → HeadNote g (IsWhole v) (Some h) → m Head ≢ h → (h < m Head) × (¬ IsWhole v)
   head_moved h note moved = let e = k.words.counts.head_is in ((let l = note.0 in let ne : m Head ≢ h = moved in omega arith), λ w. moved (e ∙ sym (note.1 w)))
 
-  pub tail_moved : (o : OpenTail) (t : ℕ) → TailSeen g (IsWhole v) o → m (Tail o.place) ≡ 2 * t → t ≢ o.position → (o.position < t) × (¬ IsWhole v)
-  tail_moved o t s now moved = let l = (tail_even g.segs g.last g.put g.shut (g.home o.place) t (sym (k.words.tails o.place (subst (λ (z : ℕ). z < f.places) s.there.there (k.words.ranges.placed s.segment s.there.opened))) ∙ now) k.words.turns.bit).1 in ((let b = s.there.below in omega arith), λ w. moved (sym l ∙ sym (s.exact w)))
+  pub tail_moved : (o : OpenTail) (p t : ℕ) → TailSeen g (IsWhole v) o → p < f.places → m (Tail p) ≡ 2 * t → t ≢ o.position → (o.position < t) × (¬ IsWhole v)
+  tail_moved o p t s near now moved = let l = (tail_even g.segs g.last g.put g.shut (g.home p) t (sym (k.words.tails p near) ∙ now) k.words.turns.bit).1 in ((let b = s.there.below in omega arith), λ w. moved (sym l ∙ sym (s.exact w)))
+
+  -- the place of an open tail that was noted is one of the table
+  pub place_near : (o : OpenTail) → TailSeen g (IsWhole v) o → o.place < f.places
+  place_near o s = subst (λ (z : ℕ). z < f.places) s.there.there (k.words.ranges.placed s.segment s.there.opened)
 
   -- a closed tail in the place of the one noted is at it or above
   pub tail_closed : (o : OpenTail) (e : ℕ) → TailSeen g (IsWhole v) o → m (Tail o.place) ≡ 2 * e + 1 → o.position ≤ e

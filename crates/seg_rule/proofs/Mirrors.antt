@@ -43,9 +43,9 @@ abbrev Fronts : Here → Front → Type 0
 Fronts h y = (y.place ≡ h.place) × (y.slot ≡ h.slot) × (y.position < 2 ^ 62)
 
 module _ (h : Here) where
-  tail_is : (p x : ℕ) → x < 2 ^ 60 → IfSome (tail_note p x) (Tails h)
-  tail_is p x small = cond_both (eqb (x % 2) 0) (Some (record { place = p; position = x / 2; length = None; number = None; fits = false; full = false })) None (λ o. IfSome o (Tails h))
-      (λ _. (omega arith, λ z. absurd (true≢false (sym z)))) (λ _. tt)
+  tail_is : (p x : ℕ) → x < 2 ^ 60 → (old : Option OpenTail) → IfSome old (Tails h) → IfSome (tail_note p x old) (Tails h)
+  tail_is p x small old was = cond_both (eqb (x % 2) 0) (Some (record { place = p; position = x / 2; length = None; number = None; fits = false; full = false })) old (λ o. IfSome o (Tails h))
+      (λ _. (omega arith, λ z. absurd (true≢false (sym z)))) (λ _. was)
 
   length_is : (p x : ℕ) (o : Option OpenTail) → IfSome o (Tails h) → IfSome (length_note p x o) (Tails h)
   length_is p x None k = tt
@@ -85,7 +85,7 @@ notes_are v h st Head x t k = record { head = (let l = t.2 in omega arith); tail
 notes_are v h st Turn x t k = k
 notes_are v h st Current x t k = record { head = k.head; tail = k.tail; front = k.front }
 notes_are v h st First x t k = record { head = k.head; tail = k.tail; front = k.front }
-notes_are v h st (Tail p) x t k = record { head = k.head; tail = tail_is h p x t.1; front = k.front }
+notes_are v h st (Tail p) x t k = record { head = k.head; tail = tail_is h p x t.small v.notes.tail k.tail; front = k.front }
 notes_are v h st (Start p) x t k = record { head = k.head; tail = k.tail; front = k.front }
 notes_are v h st (Length p) x t k = record { head = k.head; tail = length_is h p x v.notes.tail k.tail; front = k.front }
 notes_are v h st (Observers p) x t k = k

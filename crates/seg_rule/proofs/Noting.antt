@@ -63,10 +63,10 @@ module _ (f : Form) (m : Memory) (views : List View) (id : ℕ) (v : View) (k : 
   abbrev Fronts : Option Front → Type 0
   Fronts = FrontFact g
 
-  tail_ok : (p x : ℕ) → p < f.places → m (Tail p) ≡ x → Tails (tail_note p x)
-  tail_ok p x near now = cond_both (eqb (x % 2) 0) (Some (record { place = p; position = x / 2; length = None; number = None; fits = false; full = false })) None Tails
+  tail_ok : (p x : ℕ) → p < f.places → m (Tail p) ≡ x → (old : Option OpenTail) → Tails old → Tails (tail_note p x old)
+  tail_ok p x near now old was = cond_both (eqb (x % 2) 0) (Some (record { place = p; position = x / 2; length = None; number = None; fits = false; full = false })) old Tails
       (λ e. let even : x % 2 ≡ 0 = eqb-true (x % 2) 0 e in tail_noted f m views id v k at p (x / 2) near (now ∙ (let z : x ≡ 2 * (x / 2) = omega arith in z)))
-      (λ _. tt)
+      (λ _. was)
 
   length_ok : (p x : ℕ) → m (Length p) ≡ x → (o : Option OpenTail) → Tails o → Tails (length_note p x o)
   length_ok p x now None s = tt
@@ -348,7 +348,7 @@ module _ (f : Form) (m : Memory) (views : List View) (id : ℕ) (v : View) (k : 
   noted_ok Current x near now o s = record { head = s.head; gone = s.gone; tail = s.tail; front = s.front; scan = λ t. current_ok t o.head s.head o.scan (s.scan t) x now }
   noted_ok First x near now o s = record { head = s.head; gone = s.gone; tail = s.tail; front = s.front; scan = λ t. first_ok t o.head s.head o.scan (s.scan t) x now }
   noted_ok (Tail p) x near now o s = let l : p < f.places = (let z = near.0 in omega arith) in
-      record { head = s.head; gone = s.gone; tail = tail_ok p x l now; front = s.front; scan = λ t. tail_scan_ok t o.head s.head o.scan (s.scan t) p x l now }
+      record { head = s.head; gone = s.gone; tail = tail_ok p x l now o.tail s.tail; front = s.front; scan = λ t. tail_scan_ok t o.head s.head o.scan (s.scan t) p x l now }
   noted_ok (Start p) x near now o s = record {
     head = s.head;
     gone = s.gone;

@@ -121,7 +121,7 @@ pub struct Window {
 pub enum Obstacle {
     /// Two positions of the head, the second above the first.
     HeadMoved(u64, u64),
-    /// Two positions of an open tail in one place, the second above the first.
+    /// Two positions of an open tail, the second above the first.
     TailMoved(u64, u64),
     /// The number of the caller that has the turn.
     Turned(u64),
