@@ -342,17 +342,45 @@ module _ (f : Form) (m : Memory) (views : List View) (id : ℕ) (v : View) (k : 
       gone_ok t o.head s.head o.scan (s.scan t) p i x now y (has_turn v.stage) a.0 a.1)
       s.gone
 
+  -- No load changes the place of the tail noted, but for one of an open tail, which is that of the last place.
+
+  abbrev Newest : Option OpenTail → Type 0
+  Newest o = IfSome o (λ t. (g.segs g.last).place ≡ t.place)
+
+  tail_newest : (p x : ℕ) → p < f.places → m (Tail p) ≡ x → (old : Option OpenTail) → Newest old → Newest (tail_note p x old)
+  tail_newest p x near now old was = cond_both (eqb (x % 2) 0) (Some (record { place = p; position = x / 2; length = None; number = None; fits = false; full = false })) old Newest
+      (λ e. let even : x % 2 ≡ 0 = eqb-true (x % 2) 0 e in
+      let l = tail_even g.segs g.last g.put g.shut (g.home p) (x / 2) (sym (k.words.tails p near) ∙ (now ∙ (let z : x ≡ 2 * (x / 2) = omega arith in z))) k.words.turns.bit in (k.words.homes.there p g.last l.0).1)
+      (λ _. was)
+
+  length_newest : (p x : ℕ) (o : Option OpenTail) → Newest o → Newest (length_note p x o)
+  length_newest p x None s = tt
+  length_newest p x (Some o) s = cond_both (eqb o.place p) (Some (record o { length = Some x; fits = false; full = false })) (Some o) Newest (λ _. s) (λ _. s)
+
+  segment_newest : (p x : ℕ) (o : Option OpenTail) → Newest o → Newest (segment_note p x o)
+  segment_newest p x None s = tt
+  segment_newest p x (Some o) s = cond_both (eqb o.place p) (Some (record o { number = Some x })) (Some o) Newest (λ _. s) (λ _. s)
+
+  slot_newest : (p i x : ℕ) (o : OpenTail) → (g.segs g.last).place ≡ o.place → (l : Option ℕ) → Newest (slot_note p i x o l)
+  slot_newest p i x o s None = s
+  slot_newest p i x o s (Some n) = cond_both (eqb o.place p && eqb (o.position % n) i) (Some (record o { fits = eqb x (2 * o.position); full = not (eqb x (2 * o.position)) })) (Some (record o { fits = false; full = false })) Newest (λ _. s) (λ _. s)
+
+  number_newest : (p i x : ℕ) (o : Option OpenTail) → Newest o → Newest (number_tail p i x o)
+  number_newest p i x None s = tt
+  number_newest p i x (Some o) s = slot_newest p i x o s o.length
+
   pub noted_ok : (w : QueueWord) (x : ℕ) → IsWord f.places f.slots w → m w ≡ x → (o : Notes) → NotesOk g id (IsWhole v) o → NotesOk g id (IsWhole v) (noted v.stage w x o)
-  noted_ok Head x near now o s = record { head = head_noted f m views id v k at x now; gone = s.gone; tail = s.tail; front = s.front; scan = s.scan }
+  noted_ok Head x near now o s = record { head = head_noted f m views id v k at x now; gone = s.gone; tail = s.tail; newest = s.newest; front = s.front; scan = s.scan }
   noted_ok Turn x near now o s = s
-  noted_ok Current x near now o s = record { head = s.head; gone = s.gone; tail = s.tail; front = s.front; scan = λ t. current_ok t o.head s.head o.scan (s.scan t) x now }
-  noted_ok First x near now o s = record { head = s.head; gone = s.gone; tail = s.tail; front = s.front; scan = λ t. first_ok t o.head s.head o.scan (s.scan t) x now }
+  noted_ok Current x near now o s = record { head = s.head; gone = s.gone; tail = s.tail; newest = s.newest; front = s.front; scan = λ t. current_ok t o.head s.head o.scan (s.scan t) x now }
+  noted_ok First x near now o s = record { head = s.head; gone = s.gone; tail = s.tail; newest = s.newest; front = s.front; scan = λ t. first_ok t o.head s.head o.scan (s.scan t) x now }
   noted_ok (Tail p) x near now o s = let l : p < f.places = (let z = near.0 in omega arith) in
-      record { head = s.head; gone = s.gone; tail = tail_ok p x l now o.tail s.tail; front = s.front; scan = λ t. tail_scan_ok t o.head s.head o.scan (s.scan t) p x l now }
+      record { head = s.head; gone = s.gone; tail = tail_ok p x l now o.tail s.tail; newest = λ w. tail_newest p x l now o.tail (s.newest w); front = s.front; scan = λ t. tail_scan_ok t o.head s.head o.scan (s.scan t) p x l now }
   noted_ok (Start p) x near now o s = record {
     head = s.head;
     gone = s.gone;
     tail = s.tail;
+    newest = s.newest;
     front = s.front;
     scan = λ t. let c = s.scan t in
         record { first = c.first; current = c.current; length = c.length; next = c.next; past = c.past; inside = c.inside; candidate = start_ok t o.head s.head o.scan c p x now o.scan.candidate c.candidate };
@@ -361,6 +389,7 @@ module _ (f : Form) (m : Memory) (views : List View) (id : ℕ) (v : View) (k : 
     head = s.head;
     gone = s.gone;
     tail = length_ok p x now o.tail s.tail;
+    newest = λ w. length_newest p x o.tail (s.newest w);
     front = s.front;
     scan = λ t. let c = s.scan t in
         record { first = c.first; current = c.current; length = length_at t o.head s.head o.scan c p x now; next = c.next; past = c.past; inside = c.inside; candidate = c.candidate };
@@ -370,6 +399,7 @@ module _ (f : Form) (m : Memory) (views : List View) (id : ℕ) (v : View) (k : 
     head = s.head;
     gone = s.gone;
     tail = s.tail;
+    newest = s.newest;
     front = s.front;
     scan = λ t. let c = s.scan t in
         record { first = c.first; current = c.current; length = c.length; next = c.next; past = c.past; inside = c.inside; candidate = done_ok t o.head s.head o.scan c p x now o.scan.candidate c.candidate };
@@ -378,10 +408,11 @@ module _ (f : Form) (m : Memory) (views : List View) (id : ℕ) (v : View) (k : 
     head = s.head;
     gone = s.gone;
     tail = s.tail;
+    newest = s.newest;
     front = s.front;
     scan = λ t. let c = s.scan t in
         record { first = c.first; current = c.current; length = c.length; next = next_at t o.head s.head o.scan c p x now; past = c.past; inside = c.inside; candidate = c.candidate };
   }
-  noted_ok (Segment p) x near now o s = record { head = s.head; gone = s.gone; tail = segment_ok p x now o.tail s.tail; front = s.front; scan = s.scan }
-  noted_ok (Number p i) x near now o s = record { head = s.head; gone = number_gone_ok p i x now o s o.head refl; tail = number_tail_ok p i x now o.tail s.tail; front = number_front_ok p i x now o.head s.head; scan = s.scan }
-  noted_ok (Item p i) x near now o s = record { head = s.head; gone = s.gone; tail = s.tail; front = item_ok p i x now o.front s.front; scan = s.scan }
+  noted_ok (Segment p) x near now o s = record { head = s.head; gone = s.gone; tail = segment_ok p x now o.tail s.tail; newest = λ w. segment_newest p x o.tail (s.newest w); front = s.front; scan = s.scan }
+  noted_ok (Number p i) x near now o s = record { head = s.head; gone = number_gone_ok p i x now o s o.head refl; tail = number_tail_ok p i x now o.tail s.tail; newest = λ w. number_newest p i x o.tail (s.newest w); front = number_front_ok p i x now o.head s.head; scan = s.scan }
+  noted_ok (Item p i) x near now o s = record { head = s.head; gone = s.gone; tail = s.tail; newest = s.newest; front = item_ok p i x now o.front s.front; scan = s.scan }

@@ -300,6 +300,8 @@ pub record NotesOk (g : Ghosts) (j : ℕ) (whole : Type 0) (o : Notes) : Type 0 
   pub head : HeadNote g whole o.head
   pub gone : IfSome o.gone (λ h. h < g.taken)
   pub tail : TailFact g whole o.tail
+  -- no segment was opened since, where nobody else can open one
+  pub newest : whole ⊎ (g.turn ≡ suc j) → IfSome o.tail (λ t. (g.segs g.last).place ≡ t.place)
   pub front : FrontFact g o.front
   pub scan : g.turn ≡ suc j → ScanSeen g o.scan
 
