@@ -1,5 +1,5 @@
 -- A load of any word keeps the rule.
-use Rattle.std.proofs.Common.{◌≡◌, ◌≢◌, ℕ, zero, suc, ◌+◌, ◌*◌, ◌/◌, ◌%◌, ◌<◌, ◌≤◌, inl, ⊎_elim, eqb, cond, Bool, true, false, true≢false, ◌&&◌, List, [], ◌∷◌, ◌++◌, set, sym, refl, ap, ◌∙◌, subst, arith, le_refl, le_trans, eq-eqb, ne_eqb, slice_get}
+use Rattle.std.proofs.Common.{◌≡◌, ◌≢◌, ℕ, zero, suc, ◌+◌, ◌*◌, ◌/◌, ◌%◌, ◌<◌, ◌≤◌, ◌⊎◌, inl, ⊎_elim, eqb, cond, Bool, true, false, true≢false, ◌&&◌, List, [], ◌∷◌, ◌++◌, set, sym, refl, ap, ◌∙◌, subst, arith, le_refl, le_trans, eq-eqb, ne_eqb, slice_get}
 use Rattle.std.proofs.lemmas.Bool.{cond_both, and_parts, eqb-true, cases_eq}
 use mathlib.Core.Option.{some}
 use lib.ListN.{get_elem?}
@@ -22,11 +22,12 @@ use Rattle.seg_rule.specs.declared.view.Hand.TheVariants.{Nothing, Reserved, Sto
 use Rattle.seg_rule.specs.declared.view.Stage.{Stage}
 use Rattle.seg_rule.specs.declared.view.Stage.TheVariants.{Away, Plain, Closed, Found, Preparing, Opened, Linked, Observing}
 use Rattle.seg_rule.specs.Words.{Memory, IsWord}
+use Rattle.seg_rule.specs.Chain.{end_of}
 use Rattle.seg_rule.specs.Slots.{Cell}
 use Rattle.seg_rule.specs.Rule.{Ghosts, Shows, HandOk, IsShape, IsWhole, HeadNote, TailFact, tail_word, CandidateSeen, WindowOk, WindowFact, StageOk, ViewOk, Kept, in_range, flag}
 use Rattle.seg_rule.specs.Steps.{in_hand, blank}
 use Rattle.seg_rule.specs.declared.view.OpenTail.{OpenTail}
-use Rattle.seg_rule.specs.Tells.{IsAbove, IsFrom, Told, IsInFlight, Sees, is_idle, sees_in_flight, places_in, slots_in, room_in, first_len_in, place_count, slot_count}
+use Rattle.seg_rule.specs.Tells.{IsAbove, IsBeside, IsFrom, Told, IsInFlight, Sees, is_idle, sees_in_flight, places_in, slots_in, room_in, first_len_in, place_count, slot_count}
 use Rattle.seg_layout.specs.Lengths.{IsSegmentLength}
 use Rattle.seg_rule.specs.Plays.{Reads}
 use Rattle.seg_rule.specs.Loads.{is_read, is_slot_of, is_front_slot, is_free_by, has_turn, has_closed, hand_at, leave_by, measured_by, is_spent_at, found_at, after_note, obstacles, noted, is_at_rest, begins_call, begun, told, loaded}
@@ -41,7 +42,7 @@ use Rattle.seg_rule.proofs.Frames.{kept_after}
 use Rattle.seg_rule.proofs.Bounds.{few_put}
 use Rattle.seg_rule.proofs.Causes.{head_moved, tail_moved, in_flight}
 use Rattle.seg_rule.proofs.Lawful.{whole_lawful, seen_lawful, taken_counted}
-use Rattle.seg_rule.proofs.Noting.{turn_mine, front_slot, noted_ok}
+use Rattle.seg_rule.proofs.Noting.{shut_now, closed_end, turn_mine, front_slot, noted_ok}
 use Rattle.seg_rule.proofs.Scanning.{found_kept}
 use Rattle.seg_rule.proofs.Spans.{range_is}
 
@@ -288,6 +289,23 @@ module _ (f : Form) (m : Memory) (views : List View) (id : ℕ) (v : View) (k : 
       (λ (odd : x % 2 ≢ 0). omega arith)
       (cases_eq (x % 2) 0)
 
+  -- the closed tail of the first place is above the ends that first was moved past
+  beyond_told : (p e : ℕ) → p < f.places → m (Tail p) ≡ 2 * e + 1 → has_turn v.stage ≡ true → v.notes.scan.first ≡ Some p → IsBeside v p → IfSome v.notes.scan.moved (λ a. a < e)
+  beyond_told p e near now turn first beside =
+      let mine = turn_mine f m views id v k at v.stage own.stage turn in let s = own.notes.scan mine in
+      let there : (ghosts.segs ghosts.low).place ≡ p = subst (λ z. IfSome z (λ q. (ghosts.segs ghosts.low).place ≡ q)) first s.first in
+      let two = k.words.chain.some_slot ghosts.low k.words.chain.inside in
+      ⊎_elim
+      (λ (z : (ghosts.low ≡ ghosts.last) × (ghosts.shut ≡ 1) × (end_of ghosts.segs ghosts.last ghosts.put ghosts.low ≡ e)). absurd (⊎_elim
+      (λ (plain : v.stage ≡ Plain). let a : ghosts.shut ≡ 0 = (plain_stage plain).1 in let b = z.1 in omega arith)
+      (λ (c : (c : ℕ) × (v.notes.scan.current ≡ Some c) × (c ≢ p)).
+      let now_at = (subst (λ z. IfSome z (λ q. (ghosts.now ≤ ghosts.last) × ((ghosts.segs ghosts.now).place ≡ q))) c.1 s.current).1 in
+      c.2 (sym now_at ∙ (ap (λ y. (ghosts.segs y).place) (shut_now f m views id v k at v.stage own.stage mine z.1 ∙ sym z.0) ∙ there)))
+      beside))
+      (λ (z : (ghosts.low < ghosts.last) × ((ghosts.segs (suc ghosts.low)).start ≡ e) × (end_of ghosts.segs ghosts.last ghosts.put ghosts.low ≡ e)).
+      if_some (λ a. a ≤ (ghosts.segs ghosts.low).start) (λ a. a < e) (λ a l. let w = k.words.chain.follows ghosts.low z.0 in let y = z.1 in omega arith) v.notes.scan.moved s.moved)
+      (closed_end f m views id v k at ghosts.low p e (le_refl _) k.words.chain.inside there near now)
+
   pub reads_told : IsShape f → (w : QueueWord) (x : ℕ) → IsWord f.places f.slots w → m w ≡ x → Told w x v
   reads_told s Head x near now = (at_head x now v.notes.head own.notes.head, if_some (λ h. h < ghosts.taken) (λ h. h < x) (λ h l. let e = k.words.counts.head_is in omega arith) v.notes.gone own.notes.gone, (let b = (few_put f m ghosts k.words).1 in let e = k.words.counts.head_is in omega arith), room_told x now v.notes.tail own.notes.tail)
   reads_told s Turn x near now = tt
@@ -299,6 +317,7 @@ module _ (f : Form) (m : Memory) (views : List View) (id : ℕ) (v : View) (k : 
     head = head_told p x l now v.notes.head own.notes.head;
     current = λ plain e. open_told p x l now (plain_stage plain) (subst (λ c. IfSome c (λ q. (ghosts.now ≤ ghosts.last) × ((ghosts.segs ghosts.now).place ≡ q))) e (own.notes.scan (plain_stage plain).0.0).current).1;
     other = λ c plain e ne. closed_told p x l now (λ here. ne (sym (subst (λ c. IfSome c (λ q. (ghosts.now ≤ ghosts.last) × ((ghosts.segs ghosts.now).place ≡ q))) e (own.notes.scan (plain_stage plain).0.0).current).1 ∙ (ap (λ z. (ghosts.segs z).place) (plain_stage plain).3 ∙ here.0)));
+    beyond = λ e turn first beside is. beyond_told p e l (now ∙ is) turn first beside;
     closed = λ b. closed_told p x l now (λ here. let z : 0 ≡ 1 = sym here.1 ∙ shut_by v.stage own.stage b in omega arith);
   }
   reads_told s (Start p) x near now = tt

@@ -153,7 +153,7 @@ module _ (f : Form) (m : Memory) (views : List View) (id : ℕ) (v : View) (k : 
   low_now e = ⊎_elim (λ (s : g.low ≡ g.now). s) (λ (n : g.low ≢ g.now). let o = k.words.links.order in absurd (k.words.chain.apart g.low g.now (le_refl _) (let a = o.0 in omega arith) now_last e)) (cases_eq g.low g.now)
 
   -- the closed tail of a segment of the chain is its end
-  closed_end : (n p e : ℕ) → g.low ≤ n → n ≤ g.last → (g.segs n).place ≡ p → p < f.places → m (Tail p) ≡ 2 * e + 1 → ((n ≡ g.last) × (g.shut ≡ 1) × (end_of g.segs g.last g.put n ≡ e)) ⊎ ((n < g.last) × ((g.segs (suc n)).start ≡ e) × (end_of g.segs g.last g.put n ≡ e))
+  pub closed_end : (n p e : ℕ) → g.low ≤ n → n ≤ g.last → (g.segs n).place ≡ p → p < f.places → m (Tail p) ≡ 2 * e + 1 → ((n ≡ g.last) × (g.shut ≡ 1) × (end_of g.segs g.last g.put n ≡ e)) ⊎ ((n < g.last) × ((g.segs (suc n)).start ≡ e) × (end_of g.segs g.last g.put n ≡ e))
   closed_end n p e low high there near now =
       let home : g.home p ≡ suc n = ap g.home (sym there) ∙ k.words.homes.chain n low high in
       let word : m (Tail p) ≡ tail_word g.segs g.last g.put g.shut (suc n) = k.words.tails p near ∙ ap (tail_word g.segs g.last g.put g.shut) home in
@@ -174,6 +174,7 @@ module _ (f : Form) (m : Memory) (views : List View) (id : ℕ) (v : View) (k : 
       current = s.current;
       length = s.length;
       next = s.next;
+      moved = s.moved;
       past = head_fact (IsPast g) (is_read o.current x) h o.past
           (λ b. some_fact (IsPast g) h (λ y e. (noted_head y e, inl (low_now (there ∙ sym (read_fact (λ p. (g.now ≤ g.last) × ((g.segs g.now).place ≡ p)) x o.current s.current b).1))))) s.past;
       inside = s.inside;
@@ -186,6 +187,7 @@ module _ (f : Form) (m : Memory) (views : List View) (id : ℕ) (v : View) (k : 
       current = (now_last, there);
       length = s.length;
       next = s.next;
+      moved = s.moved;
       past = head_fact (IsPast g) (is_read o.first x) h o.past
           (λ b. some_fact (IsPast g) h (λ y e. (noted_head y e, inl (low_now (read_fact (λ p. (g.segs g.low).place ≡ p) x o.first s.first b ∙ sym there))))) s.past;
       inside = s.inside;
@@ -198,6 +200,7 @@ module _ (f : Form) (m : Memory) (views : List View) (id : ℕ) (v : View) (k : 
       current = s.current;
       length = s.length;
       next = s.next;
+      moved = s.moved;
       past = s.past;
       inside = head_fact (λ a. a < end_of g.segs g.last g.put g.low) (is_read o.first p && is_below h t) h o.inside
           (λ b. let a = and_parts (is_read o.first p) (is_below h t) b in
@@ -214,6 +217,7 @@ module _ (f : Form) (m : Memory) (views : List View) (id : ℕ) (v : View) (k : 
       current = s.current;
       length = s.length;
       next = s.next;
+      moved = s.moved;
       past = head_fact (IsPast g) (is_read o.first p && is_below h e) h o.past
           (λ b. let a = and_parts (is_read o.first p) (is_below h e) b in let there = read_fact (λ q. (g.segs g.low).place ≡ q) p o.first s.first a.0 in
           below_fact (IsPast g) e h (λ y i l. (
@@ -383,7 +387,7 @@ module _ (f : Form) (m : Memory) (views : List View) (id : ℕ) (v : View) (k : 
     newest = s.newest;
     front = s.front;
     scan = λ t. let c = s.scan t in
-        record { first = c.first; current = c.current; length = c.length; next = c.next; past = c.past; inside = c.inside; candidate = start_ok t o.head s.head o.scan c p x now o.scan.candidate c.candidate };
+        record { first = c.first; current = c.current; length = c.length; next = c.next; past = c.past; inside = c.inside; moved = c.moved; candidate = start_ok t o.head s.head o.scan c p x now o.scan.candidate c.candidate };
   }
   noted_ok (Length p) x near now o s = record {
     head = s.head;
@@ -392,7 +396,7 @@ module _ (f : Form) (m : Memory) (views : List View) (id : ℕ) (v : View) (k : 
     newest = λ w. length_newest p x o.tail (s.newest w);
     front = s.front;
     scan = λ t. let c = s.scan t in
-        record { first = c.first; current = c.current; length = length_at t o.head s.head o.scan c p x now; next = c.next; past = c.past; inside = c.inside; candidate = c.candidate };
+        record { first = c.first; current = c.current; length = length_at t o.head s.head o.scan c p x now; next = c.next; past = c.past; inside = c.inside; moved = c.moved; candidate = c.candidate };
   }
   noted_ok (Observers p) x near now o s = s
   noted_ok (Done p) x near now o s = record {
@@ -402,7 +406,7 @@ module _ (f : Form) (m : Memory) (views : List View) (id : ℕ) (v : View) (k : 
     newest = s.newest;
     front = s.front;
     scan = λ t. let c = s.scan t in
-        record { first = c.first; current = c.current; length = c.length; next = c.next; past = c.past; inside = c.inside; candidate = done_ok t o.head s.head o.scan c p x now o.scan.candidate c.candidate };
+        record { first = c.first; current = c.current; length = c.length; next = c.next; past = c.past; inside = c.inside; moved = c.moved; candidate = done_ok t o.head s.head o.scan c p x now o.scan.candidate c.candidate };
   }
   noted_ok (Next p) x near now o s = record {
     head = s.head;
@@ -411,7 +415,7 @@ module _ (f : Form) (m : Memory) (views : List View) (id : ℕ) (v : View) (k : 
     newest = s.newest;
     front = s.front;
     scan = λ t. let c = s.scan t in
-        record { first = c.first; current = c.current; length = c.length; next = next_at t o.head s.head o.scan c p x now; past = c.past; inside = c.inside; candidate = c.candidate };
+        record { first = c.first; current = c.current; length = c.length; next = next_at t o.head s.head o.scan c p x now; past = c.past; inside = c.inside; moved = c.moved; candidate = c.candidate };
   }
   noted_ok (Segment p) x near now o s = record { head = s.head; gone = s.gone; tail = segment_ok p x now o.tail s.tail; newest = λ w. segment_newest p x o.tail (s.newest w); front = s.front; scan = s.scan }
   noted_ok (Number p i) x near now o s = record { head = s.head; gone = number_gone_ok p i x now o s o.head refl; tail = number_tail_ok p i x now o.tail s.tail; newest = λ w. number_newest p i x o.tail (s.newest w); front = number_front_ok p i x now o.head s.head; scan = s.scan }

@@ -31,7 +31,7 @@ if_some P Q f None y = tt
 if_some P Q f (Some x) y = f x y
 
 pub nothing_scanned : (g : Ghosts) → ScanSeen g blank_scan
-nothing_scanned g = record { first = tt; current = tt; length = tt; next = tt; past = tt; inside = tt; candidate = tt }
+nothing_scanned g = record { first = tt; current = tt; length = tt; next = tt; past = tt; inside = tt; moved = tt; candidate = tt }
 
 pub blank_ok : (g : Ghosts) (j : ℕ) (whole : Type 0) → NotesOk g j whole blank
 blank_ok g j whole = record { head = tt; gone = tt; tail = tt; newest = λ w. tt; front = tt; scan = λ t. nothing_scanned g }
@@ -169,6 +169,8 @@ module _ (g g' : Ghosts) (c : ChainOk g.segs g.low g.last g.taken g.put) (k : Gr
           o.past x.past;
       inside = if_some (λ a. a < end_of g.segs g.last g.put g.low) (λ a. a < end_of g'.segs g'.last g'.put g'.low)
           (λ a y. subst (λ (z : ℕ). a < end_of g'.segs g'.last g'.put z) (sym s.low) (le_trans y (end_up g.low c.inside))) o.inside x.inside;
+      moved = if_some (λ e. e ≤ (g.segs g.low).start) (λ e. e ≤ (g'.segs g'.low).start)
+          (λ e y. subst (λ (z : ℕ). e ≤ (g'.segs z).start) (sym s.low) (subst (λ (z : Seg). e ≤ z.start) (sym (k.segs g.low c.inside)) y)) o.moved x.moved;
       candidate = if_some (CandidateSeen g) (CandidateSeen g') candidate_stays o.candidate x.candidate;
     }
 

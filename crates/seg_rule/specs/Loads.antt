@@ -271,8 +271,12 @@ obstacles st (Number p i) x o = not_free_obstacles p i x o.scan o.tail ++ (not_p
 obstacles st _ x o = []
 
 -- First store: the next place p is first. Where it is the current one, it is past the head noted.
+abbrev pub end_noted : Option Candidate → Option ℕ
+end_noted None = None
+end_noted (Some c) = Some c.end
+
 abbrev pub moved_scan : ℕ → Option ℕ → Scan → Scan
-moved_scan p h o = record { first = Some p; current = o.current; length = None; next = None; past = head_if (is_read o.current p) h None; inside = None; candidate = None }
+moved_scan p h o = record { first = Some p; current = o.current; length = None; next = None; past = head_if (is_read o.current p) h None; inside = None; moved = end_noted o.candidate; candidate = None }
 
 abbrev pub first_moved : View → ℕ → View
 first_moved v p = record v { notes = record v.notes { scan = moved_scan p v.notes.head v.notes.scan } }

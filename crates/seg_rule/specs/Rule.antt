@@ -294,6 +294,7 @@ pub record ScanSeen (g : Ghosts) (o : Scan) : Type 0 where
   pub next : IfSome o.next (NextAt g)
   pub past : IfSome o.past (IsPast g)
   pub inside : IfSome o.inside (λ h. h < end_of g.segs g.last g.put g.low)
+  pub moved : IfSome o.moved (λ e. e ≤ (g.segs g.low).start)
   pub candidate : IfSome o.candidate (CandidateSeen g)
 
 pub record NotesOk (g : Ghosts) (j : ℕ) (whole : Type 0) (o : Notes) : Type 0 where

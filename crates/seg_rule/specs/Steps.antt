@@ -28,7 +28,7 @@ use Rattle.seg_rule.specs.declared.view.Stage.{Stage}
 use Rattle.seg_rule.specs.declared.view.Stage.TheVariants.{Away, Plain, Closed, Found, Preparing, Opened, Linked, Observing}
 
 abbrev pub blank_scan : Scan
-blank_scan = record { first = None; current = None; length = None; next = None; past = None; inside = None; candidate = None }
+blank_scan = record { first = None; current = None; length = None; next = None; past = None; inside = None; moved = None; candidate = None }
 
 abbrev pub blank : Notes
 blank = record { head = None; gone = None; tail = None; front = None; scan = blank_scan }

@@ -1,5 +1,5 @@
 -- What steps tell beside the view that they leave.
-use Rattle.std.specs.Prelude.{◌+◌, ◌≡◌, ◌≢◌, ℕ, ◌*◌, ◌%◌, ◌^◌, ◌<◌, ◌≤◌, ◌&&◌, Bool, true, false, List, Some, None, slice_get, IfSome}
+use Rattle.std.specs.Prelude.{◌+◌, ◌≡◌, ◌≢◌, ℕ, ◌*◌, ◌%◌, ◌^◌, ◌<◌, ◌≤◌, ◌⊎◌, ◌&&◌, Bool, true, false, List, Some, None, slice_get, IfSome}
 use Rattle.ho_base.specs.Marks.{number_priority}
 use Rattle.ho_model.specs.declared.marks.EntryMark.{EntryMark}
 use Rattle.ho_model.specs.Enqueues.{putters_of}
@@ -45,7 +45,11 @@ place_count v = places_in v.object v.callers
 abbrev pub slot_count : View → ℕ
 slot_count v = slots_in v.object
 
--- What a load of the tail of the place p tells that reads x: an open tail is at a noted one or above, and at a noted head or above. To a pass that has the turn, and has not closed the tail, the tail of the current place is open and that of another place is closed; once it has closed it, each tail is closed.
+-- the place p is not the current one that was read, or the pass has the turn and has not closed the tail
+abbrev pub IsBeside : View → ℕ → Type 0
+IsBeside v p = (v.stage ≡ Plain) ⊎ ((c : ℕ) × (v.notes.scan.current ≡ Some c) × (c ≢ p))
+
+-- What a load of the tail of the place p tells that reads x: an open tail is at a noted one or above, and at a noted head or above. To a pass that has the turn, and has not closed the tail, the tail of the current place is open and that of another place is closed; once it has closed it, each tail is closed. The closed tail of the first place is above the ends that first was moved past under this turn.
 pub record TellsTail (p x : ℕ) (v : View) : Type 0 where
   pub above : IfSome v.notes.tail (λ o. (t : ℕ) → x ≡ 2 * t → IsAbove v t o.position)
   pub small : x < 2 ^ 60
@@ -53,6 +57,7 @@ pub record TellsTail (p x : ℕ) (v : View) : Type 0 where
   pub current : v.stage ≡ Plain → v.notes.scan.current ≡ Some p → x % 2 ≡ 0
   pub other : (c : ℕ) → v.stage ≡ Plain → v.notes.scan.current ≡ Some c → c ≢ p → x % 2 ≡ 1
   pub closed : has_closed v.stage ≡ true → x % 2 ≡ 1
+  pub beyond : (e : ℕ) → has_turn v.stage ≡ true → v.notes.scan.first ≡ Some p → IsBeside v p → x ≡ 2 * e + 1 → IfSome v.notes.scan.moved (λ m. m < e)
 
 -- a position that was enqueued in the place q, and is in hand, is this one or above
 abbrev pub IsFrom : ℕ → ℕ → Hand → Type 0

@@ -89,6 +89,8 @@ pub struct Scan {
     pub past: Option<u64>,
     /// The first segment ends above this head.
     pub inside: Option<u64>,
+    /// The end of the last segment that first was moved past under this turn.
+    pub moved: Option<u64>,
     pub candidate: Option<Candidate>,
 }
 
