@@ -175,7 +175,6 @@ pub record IsAtRest (v : View) : Type 0 where
   pub hand : v.hand ≡ Nothing
   pub stage : v.stage ≡ Away
   pub window : v.window ≡ None
-  pub paid : v.paid ≡ false
   pub joint : v.joint ≡ None
 
 -- a split: the number c is given away, and a seat with c alone has seen as much

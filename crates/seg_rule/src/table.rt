@@ -606,10 +606,12 @@ impl QueueTable {
         let numbers = pass.numbers.split_off();
         let number = numbers.caller() as usize;
         let seat = steps::give::<Brand>(&self.table.shared, &mut pass.seat, number);
+        let mut here = pass.here;
+        here.paid = false;
         QueuePass {
             seat,
             numbers,
-            here: pass.here,
+            here,
         }
     }
 
