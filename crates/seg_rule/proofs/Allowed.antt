@@ -15,7 +15,7 @@ use Rattle.seg_rule.specs.declared.view.OpenTail.{OpenTail}
 use Rattle.seg_rule.specs.declared.view.Hand.{Hand}
 use Rattle.seg_rule.specs.declared.view.Hand.TheVariants.{Nothing, Reserved, Stored}
 use Rattle.seg_rule.specs.declared.view.Stage.{Stage}
-use Rattle.seg_rule.specs.declared.view.Stage.TheVariants.{Plain, Closed, Preparing, Opened}
+use Rattle.seg_rule.specs.declared.view.Stage.TheVariants.{Plain, Closed, Preparing}
 use Rattle.seg_rule.specs.Words.{Memory, memory, update, words_of, index_of, IsWord}
 use Rattle.seg_rule.specs.Rule.{Kept, Rule}
 use Rattle.seg_rule.specs.Steps.{in_hand, fit_tail, MayReserve, Reserves, MissesTail, MayTake, Takes, MissesHead, MayTurn, turned, MissesTurn, is_full, on_stage, stored_hand, stores, publishes, reserves, takes, takes_turn, closes, opened_by, opened, opens, at_stage}

@@ -11,7 +11,7 @@ use Rattle.seg_rule.specs.declared.view.OpenTail.{OpenTail}
 use Rattle.seg_rule.specs.declared.view.Window.{Window}
 use Rattle.seg_rule.specs.declared.view.Hand.{Hand}
 use Rattle.seg_rule.specs.declared.view.Hand.TheVariants.{Nothing, Reserved, Stored, Taking}
-use Rattle.seg_rule.specs.declared.view.Stage.TheVariants.{Preparing, Opened}
+use Rattle.seg_rule.specs.declared.view.Stage.TheVariants.{Preparing}
 use Rattle.seg_rule.specs.Words.{Memory, update}
 use Rattle.seg_rule.specs.Chain.{Seg, Segs, put_seg, end_of}
 use Rattle.seg_rule.specs.Slots.{free, Cell, holder}
