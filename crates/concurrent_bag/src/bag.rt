@@ -1,5 +1,5 @@
 // The bag that callers share.
-ghost use Rattle.std.specs.Prelude.{◌≡◌, ◌<◌, ◌≤◌, IfOk};
+ghost use Rattle.std.specs.Prelude.{◌≡◌, ◌<◌, ◌≤◌, IfOk, OnErr};
 
 use crate::answers::{BagAdd, BagAddOnce, BagTake, BagTakeOnce};
 use crate::pass::BagPass;
@@ -43,7 +43,7 @@ impl<T: Item> ConcurrentBag<T> {
     ghost use Rattle.passes.specs.Calls.{Splits, Joins};
     ghost use Rattle.concurrent_bag.specs.Passes.{Answers, first_of};
     ghost use Rattle.concurrent_bag.specs.Answers.{Adds, Snaps, take_mark};
-    ghost use Rattle.concurrent_bag.specs.Tries.{AddsOnce, TakesOnce};
+    ghost use Rattle.concurrent_bag.specs.Tries.{HasNoCallLeft, AddsOnce, TakesOnce};
 
     /// A bag without items for 1 to 64 callers, and the first pass, which holds all numbers.
     pub fn new(alloc: Global, callers: u32) -> Result<(ConcurrentBag<T>, BagPass), NoMemory>
@@ -97,7 +97,9 @@ impl<T: Item> ConcurrentBag<T> {
         item: T,
     ) -> Result<(BagAdd<T>, Receipt), Unpaid<T>>
         requires { pass.old.table ≡ self.now }
-        ensures { Adds T.priority_of T.mark pass.old pass.new item result }
+        ensures left { ¬ HasNoCallLeft pass.old }
+        ensures told { Adds T.priority_of T.mark pass.old pass.new item result }
+        ensures uncounted { OnErr result (pass.new.made ≡ pass.old.made) }
     {
         lasting::add(rt, &self.table, &mut pass.badge, &mut pass.numbers, item)
     }
@@ -114,7 +116,8 @@ impl<T: Item> ConcurrentBag<T> {
     /// another (`TryTake`). Takes no memory.
     pub fn take<R: Wait>(&self, rt: &R, pass: &mut BagPass) -> (BagTake<T>, Receipt)
         requires { pass.old.table ≡ self.now }
-        ensures { Answers T.priority_of pass.old
+        ensures left { ¬ HasNoCallLeft pass.old }
+        ensures told { Answers T.priority_of pass.old
             (entry pass.old.caller callmark.Take (take_mark T.mark result.0)) result.1 pass.new }
     {
         lasting::take(rt, &self.table, &mut pass.badge, &mut pass.numbers)
@@ -131,7 +134,8 @@ impl<T: Item> ConcurrentBag<T> {
     /// Counts the items (`Count`), at one step. Takes no memory.
     pub fn count<R: Wait>(&self, rt: &R, pass: &mut BagPass) -> (u64, Receipt)
         requires { pass.old.table ≡ self.now }
-        ensures { Answers T.priority_of pass.old
+        ensures left { ¬ HasNoCallLeft pass.old }
+        ensures told { Answers T.priority_of pass.old
             (entry pass.old.caller callmark.Count (Counted result.0)) result.1 pass.new }
     {
         lasting::count(rt, &self.table, &mut pass.badge, &mut pass.numbers)
@@ -146,7 +150,9 @@ impl<T: Item> ConcurrentBag<T> {
         pass: &mut BagPass,
     ) -> Result<(Items, Receipt), NoMemory>
         requires { pass.old.table ≡ self.now }
-        ensures { Snaps T.priority_of pass.old pass.new result }
+        ensures left { ¬ HasNoCallLeft pass.old }
+        ensures told { Snaps T.priority_of pass.old pass.new result }
+        ensures uncounted { OnErr result (pass.new.made ≡ pass.old.made) }
     {
         lasting::snapshot(rt, alloc, &self.table, &mut pass.badge, &mut pass.numbers)
     }

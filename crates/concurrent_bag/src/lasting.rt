@@ -1,11 +1,12 @@
 // The calls that go on until they have an answer, on the fields of a pass.
-ghost use Rattle.std.specs.Prelude.{◌≡◌, ◌<◌, ◌^◌, slice_index};
+ghost use Rattle.std.specs.Prelude.{◌≡◌, ◌≤◌, ◌^◌, slice_index, OnErr};
 ghost use Rattle.ho_model.specs.Entries.{entry};
 ghost use Rattle.ho_model.specs.declared.marks.CallMark.TheVariants as callmark;
 ghost use Rattle.ho_model.specs.declared.marks.ReplyMark.TheVariants.{Counted};
 ghost use Rattle.concurrent_bag.specs.Passes.{Answers};
 ghost use Rattle.concurrent_bag.specs.Answers.{Adds, Snaps, take_mark};
 ghost use Rattle.concurrent_bag.specs.Seats.{view_of, IsPass};
+ghost use Rattle.concurrent_bag.specs.Tries.{HasNoCallLeft};
 
 use crate::answers::{BagAdd, BagTake};
 use crate::once::{is_spent, seat_of};
@@ -21,7 +22,7 @@ use std::sync::Wait;
 
 /// Waits for good, if the caller has made as many calls as it may.
 fn await_a_call<R: Wait>(rt: &R, numbers: &Numbers)
-    ensures { slice_index numbers.now.made numbers.now.caller < 2 ^ 37 }
+    ensures { ¬ (2 ^ 37 ≤ slice_index numbers.now.made numbers.now.caller) }
 {
     if is_spent(numbers) {
         let mut pause = Pause::new();
@@ -43,7 +44,9 @@ pub(crate) fn add<T: Item, R: Wait>(
     requires pass { IsPass badge.old numbers.old }
     requires table { badge.old.table_id ≡ table.now }
     ensures pass { IsPass badge.new numbers.new }
+    ensures left { ¬ HasNoCallLeft (view_of badge.old) }
     ensures told { Adds T.priority_of T.mark (view_of badge.old) (view_of badge.new) item result }
+    ensures uncounted { OnErr result ((view_of badge.new).made ≡ (view_of badge.old).made) }
 {
     await_a_call(rt, numbers);
     let caller = numbers.caller();
@@ -74,6 +77,7 @@ pub(crate) fn take<T: Item, R: Wait>(
     requires pass { IsPass badge.old numbers.old }
     requires table { badge.old.table_id ≡ table.now }
     ensures pass { IsPass badge.new numbers.new }
+    ensures left { ¬ HasNoCallLeft (view_of badge.old) }
     ensures told { let p = view_of badge.old in Answers T.priority_of p
         (entry p.caller callmark.Take (take_mark T.mark result.0)) result.1 (view_of badge.new) }
 {
@@ -106,6 +110,7 @@ pub(crate) fn count<T: Item, R: Wait>(
     requires pass { IsPass badge.old numbers.old }
     requires table { badge.old.table_id ≡ table.now }
     ensures pass { IsPass badge.new numbers.new }
+    ensures left { ¬ HasNoCallLeft (view_of badge.old) }
     ensures told { let p = view_of badge.old in Answers T.priority_of p
         (entry p.caller callmark.Count (Counted result.0)) result.1 (view_of badge.new) }
 {
@@ -129,7 +134,9 @@ pub(crate) fn snapshot<T: Item, R: Wait>(
     requires pass { IsPass badge.old numbers.old }
     requires table { badge.old.table_id ≡ table.now }
     ensures pass { IsPass badge.new numbers.new }
+    ensures left { ¬ HasNoCallLeft (view_of badge.old) }
     ensures told { Snaps T.priority_of (view_of badge.old) (view_of badge.new) result }
+    ensures uncounted { OnErr result ((view_of badge.new).made ≡ (view_of badge.old).made) }
 {
     await_a_call(rt, numbers);
     let caller = numbers.caller();
