@@ -43,6 +43,7 @@ mod entering;
 mod form;
 mod pass;
 mod plays;
+mod snapshot;
 mod start;
 mod steps;
 mod table;
