@@ -17,21 +17,26 @@
 //! It promises upward that each of these steps is one call on one word and keeps the rule: *tail
 //! reserve*, *item store*, *publish*, *head take*, *release*, *done add*, *split* and *join*; *turn
 //! take*, *turn leave*, *tail close*, *place words*, *tail open*, *current store* and *first store*;
-//! *tail reopen*; and the load of any word. An entry of the queue is made at a tail reserve, a head
-//! take or a load, where the step wins or its value decides it, and is legal for the queue object.
-//! An exchange that is lost files what it found as an obstacle.
+//! *observe add*, *head look*, *tail reopen* and *observe end*; and the load of any word. An entry of
+//! the queue is made at a tail reserve, a head take, a head look or a load, where the step wins or its
+//! value decides it, and is legal for the queue object. An exchange that is lost files what it found as
+//! an obstacle.
 //!
-//! Of a snapshot's kinds *observe add*, *head look* and *observe end* have no function yet. The rule
-//! speaks of them, and that they keep it is proved (`proofs/Windows.antt`).
+//! A snapshot is taken under the turn, with the tail closed: *observe add* of each place from the first
+//! to the current one, then *head look*, whose entry has the whole queue as its reply. The pass has its
+//! positions in a *window* from then on. They stay in their slots until *observe end* lets their place
+//! go, since a take that reads observers does not release. At most 64 windows are over a place: each
+//! is of a pass that holds its own number.
 //!
-//! What no clause says yet: that notes do not outlive a call which begins with another word than the
-//! first or the current place, or with the turn; that a load of a tail finds it open under the turn
-//! where its place was read as current; that a lost exchange which found a closed tail was made without the
-//! turn, and by a pass that does not hold all numbers; what a load of the turn, of a start, of a count
-//! of takes or of a segment word read, where the pass notes nothing of it; that the next length was
-//! chosen by whether the place is observed; and that the number of a segment times the first length is
-//! at most its positions (`numbers_high` of `proofs/Chains.antt` has that for starts). `paid` stays
-//! true from a turn to the entry or to the next call.
+//! What no clause says yet: what a load of a slot in the window tells of the snapshot's items
+//! (`proofs/Snapshots.antt` has it of the rule); that notes do not outlive a call which begins with
+//! another word than the first or the current place, or with the turn; that a load of a tail finds it
+//! open under the turn where its place was read as current; that a lost exchange which found a closed
+//! tail was made without the turn, and by a pass that does not hold all numbers; what a load of the
+//! turn, of a start, of a count of takes or of a segment word read, where the pass notes nothing of
+//! it; that the next length was chosen by whether the place is observed; and that the number of a
+//! segment times the first length is at most its positions (`numbers_high` of `proofs/Chains.antt`
+//! has that for starts). `paid` stays true from a turn to the entry or to the next call.
 //!
 //! It stands on `atomic_table`, where each step is sequentially consistent, on `seg_layout` for the
 //! layout, on `passes` for the numbers of passes and on `ho_model`, which says what a queue is.
