@@ -15,10 +15,10 @@ use Rattle.seg_rule.specs.declared.view.OpenTail.{OpenTail}
 use Rattle.seg_rule.specs.declared.view.Hand.{Hand}
 use Rattle.seg_rule.specs.declared.view.Hand.TheVariants.{Nothing, Reserved, Stored}
 use Rattle.seg_rule.specs.declared.view.Stage.{Stage}
-use Rattle.seg_rule.specs.declared.view.Stage.TheVariants.{Plain, Closed, Preparing, Opened}
+use Rattle.seg_rule.specs.declared.view.Stage.TheVariants.{Plain, Closed, Preparing}
 use Rattle.seg_rule.specs.Words.{Memory, memory, update, words_of, index_of, IsWord}
 use Rattle.seg_rule.specs.Rule.{Kept, Rule}
-use Rattle.seg_rule.specs.Steps.{in_hand, fit_tail, MayReserve, Reserves, MissesTail, MayTake, Takes, MissesHead, MayTurn, turned, MissesTurn, is_full, on_stage, stored_hand, stores, publishes, reserves, takes, takes_turn, closes, opened_stage, opens, at_stage}
+use Rattle.seg_rule.specs.Steps.{in_hand, fit_tail, MayReserve, Reserves, MissesTail, MayTake, Takes, MissesHead, MayTurn, turned, MissesTurn, is_full, on_stage, stored_hand, stores, publishes, reserves, takes, takes_turn, closes, opened_by, opened, opens, at_stage}
 use Rattle.seg_rule.proofs.Words.{at_word, index_below}
 use Rattle.seg_rule.proofs.Frames.{rule_after}
 use Rattle.seg_rule.proofs.Missing.{tail_missed, head_missed, turn_missed}
@@ -102,8 +102,8 @@ module _ (f : Form) (slots id : ℕ) (me : Me ℕ View) where
 
   pub tail_opens : (d q t n : ℕ) → me.0.stage ≡ Preparing d q t n (4 + n) → q < f.places
       → Allows (Rule f) slots id me (index_of f.slots (Tail q)) (λ _. 2 * t) (λ _. opens (step slots (index_of f.slots (Tail q)) (2 * t) 0 none) me (2 * t))
-  tail_opens d q t n ready a = subst (λ (s : Stage). Allows (Rule f) slots id me (index_of f.slots (Tail q)) (λ _. 2 * t) (λ _ w. w ≡ (on_stage me.0 (opened_stage s), me.1))) (sym ready)
-      (stores_allowed f slots id me (Tail q) (2 * t) (on_stage me.0 (Opened d q t)) (tail_word f q a) (λ s k at. opened_kept f (memory f.places f.slots s.words) s.views id me.0 k at d q t n ready))
+  tail_opens d q t n ready a = subst (λ (s : Stage). Allows (Rule f) slots id me (index_of f.slots (Tail q)) (λ _. 2 * t) (λ _ w. w ≡ (opened_by s me.0, me.1))) (sym ready)
+      (stores_allowed f slots id me (Tail q) (2 * t) (opened_by (Preparing d q t n (4 + n)) me.0) (tail_word f q a) (λ s k at. opened_kept f (memory f.places f.slots s.words) s.views id me.0 k at d q t n ready))
 
 -- the index that the code computed, where n is the code's number of slots
 pub index_in : (f : Form) (n i words : ℕ) (w : QueueWord) → f.slots ≡ n → i ≡ index_of n w → words ≡ words_of f.places f.slots → IsWord f.places f.slots w → i < words
@@ -145,7 +145,7 @@ module _ (f : Form) (n i slots id : ℕ) (me : Me ℕ View) (wide : f.slots ≡ 
       (subst (λ (z : ℕ × ℕ). Allows (Rule f) slots id me (index_of f.slots Head) (λ y. either (eqb y z.0) z.1 y) (takes h' q j y (step slots i h (h + 1) none) me)) (λ d. (at_h d, (ap suc at_h ∙ next) d)) (head_takes f slots id me h' q j y may))
 
   pub opens_at : (d q t l : ℕ) → me.0.stage ≡ Preparing d q t l (4 + l) → q < f.places → i ≡ index_of n (Tail q) → Allows (Rule f) slots id me i (λ _. 2 * t) (λ _. opens (step slots i (2 * t) 0 none) me (2 * t))
-  opens_at d q t l ready a e = at_index (λ z. Allows (Rule f) slots id me z (λ _. 2 * t) (λ _ w. w ≡ (on_stage me.0 (opened_stage me.0.stage), me.1))) f n i (Tail q) wide e (tail_opens f slots id me d q t l ready a)
+  opens_at d q t l ready a e = at_index (λ z. Allows (Rule f) slots id me z (λ _. 2 * t) (λ _ w. w ≡ (opened me.0, me.1))) f n i (Tail q) wide e (tail_opens f slots id me d q t l ready a)
 
 -- a store of the holder of the turn, at the index that the code computed
 pub stage_at : (f : Form) (n i slots id : ℕ) (me : Me ℕ View) (w : QueueWord) (x : ℕ) (F : Stage → Stage) (s s' : Stage) → f.slots ≡ n → i ≡ index_of n w → IsWord f.places f.slots w → me.0.stage ≡ s → F s ≡ s'

@@ -54,7 +54,7 @@ module _ (f : Form) (m : Memory) (views : List View) (id : ℕ) (v : View) (k : 
         rely = λ j u other there x. record {
           grows = grows;
           holds = λ h. h;
-          still = λ a. (refl, refl);
+          still = λ a. (refl, refl, refl);
           hand_place = λ a n p e s. (e, s);
           window_place = λ a n p e s. (e, s, refl);
           held = λ a b e. refl;

@@ -1,5 +1,5 @@
 -- What the refusals rest on: another pass is in the way, and so this one does not hold all numbers.
-use Rattle.std.proofs.Common.{◌≡◌, ℕ, zero, suc, ◌+◌, ◌*◌, ◌<◌, ◌≤◌, ◌≢◌, ◌⊎◌, inl, inr, ⊎_elim, List, sym, refl, ap, ◌∙◌, subst, arith, cond, eq-eqb, ne_eqb}
+use Rattle.std.proofs.Common.{◌≡◌, ℕ, zero, suc, ◌+◌, ◌*◌, ◌<◌, ◌≤◌, ◌≢◌, ◌⊎◌, inl, inr, ⊎_elim, false, true≢false, le_refl, List, sym, refl, ap, ◌∙◌, subst, arith, cond, eq-eqb, ne_eqb}
 use mathlib.Core.Option.{some}
 use lib.ListN.{get_elem?}
 use Rattle.std.specs.Prelude.{Some}
@@ -15,6 +15,7 @@ use Rattle.seg_rule.specs.declared.view.Hand.TheVariants.{Nothing, Reserved, Sto
 use Rattle.seg_rule.specs.declared.view.Stage.{Stage}
 use Rattle.seg_rule.specs.declared.view.Stage.TheVariants.{Away, Plain, Closed, Found, Preparing, Opened, Linked, Observing}
 use Rattle.seg_rule.specs.Words.{Memory}
+use Rattle.seg_rule.specs.Steps.{keeps_closed}
 use Rattle.seg_rule.specs.Chain.{end_of}
 use Rattle.seg_rule.specs.Slots.{Phase, free, writing, stored, full, reading, left, Cell, face, holder, InPhase, SlotOk}
 use Rattle.seg_rule.specs.Rule.{Ghosts, IsWhole, Shows, HeadNote, TailSeen, LeaveOk, LeaveHas, HandOk, InHand, HasTurn, StageOk, ViewOk, Kept, tail_word}
@@ -85,8 +86,12 @@ module _ (f : Form) (m : Memory) (views : List View) (id : ℕ) (v : View) (k : 
   pub head_moved : (h : ℕ) → HeadNote g (IsWhole v) (Some h) → m Head ≢ h → (h < m Head) × (¬ IsWhole v)
   head_moved h note moved = let e = k.words.counts.head_is in ((let l = note.0 in let ne : m Head ≢ h = moved in omega arith), λ w. moved (e ∙ sym (note.1 w)))
 
-  pub tail_moved : (o : OpenTail) (t : ℕ) → TailSeen g (IsWhole v) o → m (Tail o.place) ≡ 2 * t → t ≢ o.position → (o.position < t) × (¬ IsWhole v)
-  tail_moved o t s now moved = let l = (tail_even g.segs g.last g.put g.shut (g.home o.place) t (sym (k.words.tails o.place (subst (λ (z : ℕ). z < f.places) s.there.there (k.words.ranges.placed s.segment s.there.opened))) ∙ now) k.words.turns.bit).1 in ((let b = s.there.below in omega arith), λ w. moved (sym l ∙ sym (s.exact w)))
+  pub tail_moved : (o : OpenTail) (p t : ℕ) → TailSeen g (IsWhole v) o → p < f.places → m (Tail p) ≡ 2 * t → t ≢ o.position → (o.position < t) × (¬ IsWhole v)
+  tail_moved o p t s near now moved = let l = (tail_even g.segs g.last g.put g.shut (g.home p) t (sym (k.words.tails p near) ∙ now) k.words.turns.bit).1 in ((let b = s.there.below in omega arith), λ w. moved (sym l ∙ sym (s.exact w)))
+
+  -- the place of an open tail that was noted is one of the table
+  pub place_near : (o : OpenTail) → TailSeen g (IsWhole v) o → o.place < f.places
+  place_near o s = subst (λ (z : ℕ). z < f.places) s.there.there (k.words.ranges.placed s.segment s.there.opened)
 
   -- a closed tail in the place of the one noted is at it or above
   pub tail_closed : (o : OpenTail) (e : ℕ) → TailSeen g (IsWhole v) o → m (Tail o.place) ≡ 2 * e + 1 → o.position ≤ e
@@ -110,6 +115,28 @@ module _ (f : Form) (m : Memory) (views : List View) (id : ℕ) (v : View) (k : 
           (λ (ne : a ≢ g.last). let w = word ∙ ap (λ b. cond b (2 * g.put + g.shut) (2 * (g.segs (suc a)).start + 1)) (ne_eqb a g.last ne) in
           let l = s.there.after (omega arith) in let r = rises g.segs g.low g.last g.taken g.put k.words.chain (suc n) (suc a) (omega arith) (omega arith) in omega arith)
           (cases_eq a g.last)
+
+  -- the tail of the last place is closed by another caller, who has the turn, unless this pass has it closed
+  closed_by : (s : Stage) → v.stage ≡ s → StageOk g id (HasNumber v.held v.caller) v.caller s → (IsWhole v ⊎ (g.turn ≡ suc id) → g.shut ≡ 1) → keeps_closed s ≡ false → (s ≡ Away) × (¬ IsWhole v)
+  closed_by Away is st shut e = (refl, λ w. none g.turn refl (shut (inl w)) w)
+    where
+      none : (z : ℕ) → g.turn ≡ z → g.shut ≡ 1 → IsWhole v → ⊥
+      none zero z closed w = let i : g.shut ≡ 0 = (k.words.turns.idle z).1 in omega arith
+      none (suc j) z closed w = let u = k.seats.turned j z in let x = k.seats.each j u.0 u.1 in let t = turn_of g j (HasNumber u.0.held u.0.caller) u.0.caller u.0.stage x.stage z in
+          (theirs j u.0 u.1 (λ same. st (z ∙ ap suc same)) t.2).not_whole w
+  closed_by Plain is st shut e = absurd (let z : 0 ≡ 1 = sym st.1 ∙ shut (inr st.0.0) in omega arith)
+  closed_by (Closed q p u) is st shut e = absurd (true≢false e)
+  closed_by (Found q p u) is st shut e = absurd (true≢false e)
+  closed_by (Preparing d q s n w) is st shut e = absurd (true≢false e)
+  closed_by (Opened d q p) is st shut e = absurd (let z : 0 ≡ 1 = sym st.1 ∙ shut (inr st.0.0) in omega arith)
+  closed_by (Linked q p) is st shut e = absurd (let z : 0 ≡ 1 = sym st.1 ∙ shut (inr st.0.0) in omega arith)
+  closed_by (Observing q p b n r) is st shut e = absurd (true≢false e)
+
+  pub tail_shut : (o : OpenTail) (u : ℕ) → TailSeen g (IsWhole v) o → (IsWhole v ⊎ (g.turn ≡ suc id) → (g.segs g.last).place ≡ o.place) → m (Tail o.place) ≡ 2 * u + 1 → keeps_closed v.stage ≡ false → (v.stage ≡ Away) × (¬ IsWhole v)
+  tail_shut o u s newest now = closed_by v.stage refl ok.stage (λ w.
+      let home : g.home o.place ≡ suc g.last = ap g.home (sym (newest w)) ∙ k.words.homes.chain g.last k.words.chain.inside (le_refl _) in
+      let word : m (Tail o.place) ≡ 2 * g.put + g.shut = k.words.tails o.place (place_near o s) ∙ (ap (tail_word g.segs g.last g.put g.shut) home ∙ ap (λ b. cond b (2 * g.put + g.shut) (2 * (g.segs (suc g.last)).start + 1)) (eq-eqb g.last g.last refl)) in
+      let bit = k.words.turns.bit in omega arith)
 
   -- the free number of a position that was enqueued: it is in flight, by a caller that is not held
   pub in_flight : (q i n p : ℕ) → v.hand ≡ Nothing → Shows g q i n → m (Number q i) ≡ 2 * p → p < end_of g.segs g.last g.put n → (c : ℕ) × (get_elem? g.putters p ≡ some c) × (g.taken ≤ p) × IsTheirs v c

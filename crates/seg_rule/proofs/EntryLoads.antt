@@ -1,5 +1,5 @@
 -- The entries that a load makes, by the value that it reads: full, empty, peek, count.
-use Rattle.std.proofs.Common.{Bool, true, false, ◌≡◌, ℕ, ◌+◌, ◌-◌, ◌*◌, ◌<◌, ◌≤◌, ⊎_elim, List, [], ◌∷◌, ◌++◌, set, sym, refl, ◌∙◌, subst, arith}
+use Rattle.std.proofs.Common.{Bool, true, false, ◌≡◌, ℕ, ◌+◌, ◌-◌, ◌*◌, ◌<◌, ◌≤◌, ⊎_elim, List, [], ◌∷◌, ◌++◌, set, sym, refl, ap, ◌∙◌, subst, arith}
 use mathlib.Core.Option.{some}
 use lib.ListN.{get_elem?}
 use Rattle.std.specs.Prelude.{Some, None}
@@ -18,6 +18,7 @@ use Rattle.passes.specs.Numbers.{HasNumber}
 use Rattle.ho_model.specs.declared.marks.Tally.{Tally}
 use Rattle.seg_rule.specs.Object.{Stands}
 use Rattle.seg_rule.specs.Steps.{blank, count_made, MayCount, Enters, front_of}
+use Rattle.seg_rule.specs.Tells.{room_in}
 use Rattle.seg_rule.specs.Entering.{EntersFull, EntersEmpty, EntersPeek, EntersCount}
 use Rattle.seg_rule.proofs.Lawful.{entry_lawful, put_counted, taken_counted}
 use Rattle.seg_rule.proofs.Object.{full_next, empty_next, empty_peek_next, peek_next, count_next}
@@ -61,7 +62,7 @@ module _ (f : Form) (m : Memory) (views : List View) (id : ℕ) (v : View) (k : 
   full_kept o y h noted now is =
       let s : TailSeen g (IsWhole v) o = subst (TailFact g (IsWhole v)) noted ok.notes.tail in let c = k.words.counts in let b = s.there.below in let w = c.within in let hd = c.head_is in
       let e : g.put ≡ o.position = omega arith in let t : g.taken + f.room ≡ o.position = omega arith in
-      entered_here (entry v.caller (Enq (y ∷ [])) reply.Full) refl (full_next f.room f.first_len g.log g.values g.putters g.taken v.caller c.stands small y (let z = c.sized in omega arith)) (λ counts. counts.enqueued ≡ o.position) e
+      entered_here (entry v.caller (Enq (y ∷ [])) reply.Full) refl (full_next f.room f.first_len g.log g.values g.putters g.taken v.caller c.stands small y (let z = c.sized in omega arith)) (λ counts. (counts.enqueued ≡ o.position) × (counts.taken + room_in v.object ≡ o.position)) (e, ap (λ z. g.taken + room_in z) ok.of_object ∙ t)
 
   -- an open tail stands at the noted head
   pub empty_kept : (q h : ℕ) (peek : Bool) → q < f.places → v.notes.head ≡ Some h → m (Tail q) ≡ 2 * h → (w : View) × Kept f m (set views id w) × EntersEmpty v h peek w

@@ -14,7 +14,7 @@ use Rattle.seg_rule.specs.declared.view.Stage.TheVariants.{Away, Plain, Closed, 
 use Rattle.seg_rule.specs.Words.{Memory, memory, update, index_of, IsWord}
 use Rattle.seg_rule.specs.Rule.{Ghosts, IsWhole, HeadNote, CandidateSeen, NextAt, IsPast, StageOk, ViewOk, Kept, Rule}
 use Rattle.seg_rule.specs.Steps.{MayMoveFirst}
-use Rattle.seg_rule.specs.Loads.{is_read, moved_scan, first_moved, MayMove}
+use Rattle.seg_rule.specs.Loads.{is_read, end_noted, moved_scan, first_moved, MayMove}
 use Rattle.seg_rule.specs.Plays.{moves_first}
 use Rattle.seg_rule.proofs.Allowed.{at_index, stores_allowed}
 use Rattle.seg_rule.proofs.Links.{first_kept}
@@ -60,6 +60,7 @@ module _ (f : Form) (m : Memory) (views : List View) (id : ℕ) (v : View) (k : 
             (λ b. some_fact (IsPast (record g { low = suc g.low })) v.notes.head (λ y e. (noted y e, inl (same (now_at b)))))
             tt;
         inside = tt;
+        moved = subst (λ z. IfSome (end_noted z) (λ e. e ≤ (g.segs (suc g.low)).start)) (sym may.ended) (let a = ends.1 in let z : may.closed.end ≤ (g.segs (suc g.low)).start = omega arith in z);
         candidate = tt;
       }
     where

@@ -58,7 +58,7 @@ module _ (f : Form) (m : Memory) (views : List View) (id : ℕ) (v : View) (k : 
     cell_rely j u other = record {
       grows = cell_grows;
       holds = λ h. h;
-      still = λ a. (refl, refl);
+      still = λ a. (refl, refl, refl);
       hand_place = λ a n p e s. (e, s);
       window_place = λ a n p e s. (e, s, refl);
       held = put_held g q i c id j other (own_loose id (g.cells q i) had);
@@ -76,7 +76,7 @@ module _ (f : Form) (m : Memory) (views : List View) (id : ℕ) (v : View) (k : 
         of_callers = ok.of_callers;
         holds = ok.holds;
         joint = ok.joint;
-        notes = notes_stay g g' k.words.chain cell_grows id (IsWhole v) (λ a. (refl, refl)) k.words.homes (λ e. e) (λ e. record { now = refl; last = refl; low = refl; prep = refl; home = λ q. refl; untold = λ q o. le_refl _ }) v.notes ok.notes;
+        notes = notes_stay g g' k.words.chain cell_grows id (IsWhole v) (λ a. (refl, refl)) k.words.homes (λ e. e) (λ e. record { now = refl; last = refl; low = refl; prep = refl; home = λ q. refl; untold = λ q o. le_refl _ }) (λ a. refl) v.notes ok.notes;
         hand = hand;
         ties = each_slot g.cells q i c (λ a b d. holder d.1 ≡ suc id → InHand w a b) mine (λ a b n e. others a b (ok.ties a b e) n);
         stage = ok.stage;

@@ -99,7 +99,7 @@ module _ (f : Form) (m : Memory) (views : List View) (id : ℕ) (v : View) (k : 
           rely = λ j u other there x. record {
             grows = grows;
             holds = λ h. h;
-            still = λ a. (refl, refl);
+            still = λ a. (refl, refl, refl);
             hand_place = λ a b p e s. (e, s);
             window_place = λ a b r e s. (e, s, not_watched j u there b r);
             held = λ a b e. refl;
@@ -112,7 +112,7 @@ module _ (f : Form) (m : Memory) (views : List View) (id : ℕ) (v : View) (k : 
             of_callers = ok.of_callers;
             holds = ok.holds;
             joint = ok.joint;
-            notes = notes_stay g g' k.words.chain grows id (IsWhole v) (λ a. (refl, refl)) k.words.homes (λ e. e) (λ e. record { now = refl; last = refl; low = refl; prep = refl; home = λ q. refl; untold = λ q o. le_refl _ }) v.notes ok.notes;
+            notes = notes_stay g g' k.words.chain grows id (IsWhole v) (λ a. (refl, refl)) k.words.homes (λ e. e) (λ e. record { now = refl; last = refl; low = refl; prep = refl; home = λ q. refl; untold = λ q o. le_refl _ }) (λ a. refl) v.notes ok.notes;
             hand = (act, (n, s), below, (cell, λ a e. let same : n ≡ a = (let z : suc n ≡ suc a = sym s.0 ∙ e in omega arith) in subst (λ (z : ℕ). p < bar' z) same (subst (λ (z : ℕ). p < z) (sym bar_here) below)));
             ties = λ a b e. let o = subst (λ (z : Hand). InHand z a b) is (ok.ties a b e) in (o.0, o.1, tt);
             stage = ok.stage;
@@ -261,7 +261,7 @@ module _ (f : Form) (m : Memory) (views : List View) (id : ℕ) (v : View) (k : 
         rely = λ j u other there x. record {
           grows = grows;
           holds = λ h. h;
-          still = λ a. (refl, refl);
+          still = λ a. (refl, refl, refl);
           hand_place = λ a b p e s. (e, s);
           window_place = λ a b r e s. (e, s, refl);
           held = λ a b e. refl;
@@ -274,7 +274,7 @@ module _ (f : Form) (m : Memory) (views : List View) (id : ℕ) (v : View) (k : 
           of_callers = ok.of_callers;
           holds = ok.holds;
           joint = ok.joint;
-          notes = notes_stay g g' k.words.chain grows id (IsWhole v) (λ a. (refl, refl)) k.words.homes (λ e. e) (λ e. same_chain g g' same) v.notes ok.notes;
+          notes = notes_stay g g' k.words.chain grows id (IsWhole v) (λ a. (refl, refl)) k.words.homes (λ e. e) (λ e. same_chain g g' same) (λ a. refl) v.notes ok.notes;
           hand = tt;
           ties = λ a b e. let o = subst (λ (z : Hand). InHand z a b) is (ok.ties a b e) in none o.2;
           stage = stage_stays g g' k.words.chain grows id active v.caller v.stage (λ e. same) (λ e. e) ok.stage;

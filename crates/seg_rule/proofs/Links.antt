@@ -48,7 +48,7 @@ module _ (f : Form) (m : Memory) (views : List View) (id : ℕ) (v : View) (k : 
       rely = λ j u other there x. record {
         grows = grows;
         holds = λ h. h;
-        still = λ a. (refl, refl);
+        still = λ a. (refl, refl, refl);
         hand_place = λ a n p e s. (e, s);
         window_place = λ a n p e s. (e, s, refl);
         held = λ a b e. refl;
@@ -61,7 +61,7 @@ module _ (f : Form) (m : Memory) (views : List View) (id : ℕ) (v : View) (k : 
         of_callers = ok.of_callers;
         holds = ok.holds;
         joint = ok.joint;
-        notes = notes_alone g g' k.words.chain grows id (IsWhole v) (λ a. (refl, refl)) v.notes ok.notes;
+        notes = notes_alone g g' k.words.chain grows id (IsWhole v) (λ a. (refl, refl)) mine refl v.notes ok.notes;
         hand = ok.hand;
         ties = ok.ties;
         stage = stage;
@@ -238,8 +238,8 @@ module _ (f : Form) (m : Memory) (views : List View) (id : ℕ) (v : View) (k : 
     w = record v { notes = record v.notes { scan = scan } }
 
     notes_on : NotesOk f' id (IsWhole v) w.notes
-    notes_on = let o = notes_alone g f' k.words.chain first_grows id (IsWhole v) (λ a. (refl, refl)) v.notes ok.notes in
-        record { head = o.head; gone = o.gone; tail = o.tail; front = o.front; scan = λ t. known }
+    notes_on = let o = notes_alone g f' k.words.chain first_grows id (IsWhole v) (λ a. (refl, refl)) mine refl v.notes ok.notes in
+        record { head = o.head; gone = o.gone; tail = o.tail; newest = o.newest; front = o.front; scan = λ t. known }
 
     pub first_kept : Kept f (update m First x) (set views id w)
     first_kept = let o = k.words.links.order in kept_after f m (update m First x) views k id v w f' at
@@ -277,7 +277,7 @@ module _ (f : Form) (m : Memory) (views : List View) (id : ℕ) (v : View) (k : 
           rely = λ j u other there x. record {
             grows = first_grows;
             holds = λ h. h;
-            still = λ a. (refl, refl);
+            still = λ a. (refl, refl, refl);
             hand_place = λ a n p e s. (e, s);
             window_place = λ a n p e s. (e, s, refl);
             held = λ a b e. refl;

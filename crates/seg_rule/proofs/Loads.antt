@@ -1,5 +1,5 @@
 -- A load of any word keeps the rule.
-use Rattle.std.proofs.Common.{◌≡◌, ◌≢◌, ℕ, zero, suc, ◌+◌, ◌*◌, ◌<◌, ◌≤◌, inl, ⊎_elim, eqb, cond, Bool, true, false, true≢false, ◌&&◌, List, [], ◌∷◌, ◌++◌, set, sym, refl, ap, ◌∙◌, subst, arith, le_refl, eq-eqb, ne_eqb, slice_get}
+use Rattle.std.proofs.Common.{◌≡◌, ◌≢◌, ℕ, zero, suc, ◌+◌, ◌*◌, ◌/◌, ◌%◌, ◌<◌, ◌≤◌, inl, ⊎_elim, eqb, cond, Bool, true, false, true≢false, ◌&&◌, List, [], ◌∷◌, ◌++◌, set, sym, refl, ap, ◌∙◌, subst, arith, le_refl, le_trans, eq-eqb, ne_eqb, slice_get}
 use Rattle.std.proofs.lemmas.Bool.{cond_both, and_parts, eqb-true, cases_eq}
 use mathlib.Core.Option.{some}
 use lib.ListN.{get_elem?}
@@ -22,25 +22,27 @@ use Rattle.seg_rule.specs.declared.view.Hand.TheVariants.{Nothing, Reserved, Sto
 use Rattle.seg_rule.specs.declared.view.Stage.{Stage}
 use Rattle.seg_rule.specs.declared.view.Stage.TheVariants.{Away, Plain, Closed, Found, Preparing, Opened, Linked, Observing}
 use Rattle.seg_rule.specs.Words.{Memory, IsWord}
-use Rattle.seg_rule.specs.Rule.{Ghosts, IsShape, IsWhole, HeadNote, TailFact, tail_word, CandidateSeen, WindowOk, WindowFact, WindowOwned, StageOk, ViewOk, Kept, in_range, flag}
+use Rattle.seg_rule.specs.Chain.{end_of}
+use Rattle.seg_rule.specs.Slots.{Cell}
+use Rattle.seg_rule.specs.Rule.{Ghosts, Shows, HandOk, IsShape, IsWhole, HeadNote, TailFact, tail_word, CandidateSeen, WindowOk, WindowFact, WindowOwned, StageOk, ViewOk, Kept, in_range, flag}
 use Rattle.seg_rule.specs.Steps.{in_hand, blank}
 use Rattle.seg_rule.specs.declared.view.OpenTail.{OpenTail}
-use Rattle.seg_rule.specs.Tells.{IsAbove, Told, IsInFlight, Sees, is_idle, sees_in_flight, places_in, slots_in, room_in, first_len_in, place_count, slot_count}
+use Rattle.seg_rule.specs.Tells.{IsAbove, IsBeside, IsFrom, Told, IsInFlight, Sees, is_idle, sees_in_flight, places_in, slots_in, room_in, first_len_in, place_count, slot_count}
 use Rattle.seg_layout.specs.Lengths.{IsSegmentLength}
 use Rattle.seg_rule.specs.Plays.{Reads}
-use Rattle.seg_rule.specs.Loads.{is_read, is_slot_of, is_front_slot, is_free_by, has_turn, hand_at, leave_by, measured_by, is_spent_at, found_at, after_note, obstacles, noted, is_at_rest, begins_call, begun, told, loaded}
+use Rattle.seg_rule.specs.Loads.{is_read, is_slot_of, is_front_slot, is_free_by, has_turn, has_closed, hand_at, leave_by, measured_by, is_spent_at, found_at, after_note, obstacles, noted, is_at_rest, begins_call, begun, told, loaded}
 use Rattle.seg_rule.proofs.Tails.{tail_even}
 use Rattle.seg_rule.proofs.Begins.{begins_kept}
 use Rattle.seg_rule.proofs.Leaves.{leave_given, leave_refused, sized_kept}
 use Rattle.seg_rule.proofs.Looks.{entry_grows, entry_turn, own_kept, look_kept}
-use Rattle.seg_rule.proofs.Chains.{rises}
+use Rattle.seg_rule.proofs.Chains.{rises, numbers_high}
 use Rattle.seg_rule.proofs.Object.{got}
 use Rattle.seg_rule.proofs.Stays.{if_some}
 use Rattle.seg_rule.proofs.Frames.{kept_after}
 use Rattle.seg_rule.proofs.Bounds.{few_put}
 use Rattle.seg_rule.proofs.Causes.{head_moved, tail_moved, in_flight}
 use Rattle.seg_rule.proofs.Lawful.{whole_lawful, seen_lawful, taken_counted}
-use Rattle.seg_rule.proofs.Noting.{turn_mine, front_slot, noted_ok}
+use Rattle.seg_rule.proofs.Noting.{shut_now, closed_end, turn_mine, front_slot, noted_ok}
 use Rattle.seg_rule.proofs.Scanning.{found_kept}
 use Rattle.seg_rule.proofs.Spans.{range_is}
 
@@ -219,9 +221,9 @@ module _ (f : Form) (m : Memory) (views : List View) (id : ℕ) (v : View) (k : 
   at_head x now None n = tt
   at_head x now (Some h) n = λ ne. let moved = head_moved f m views id v k at h n (λ e. ne (sym now ∙ e)) in (subst (λ z. h < z) now moved.0, moved.1)
 
-  at_tail : (p x : ℕ) → m (Tail p) ≡ x → (o : Option OpenTail) → TailFact ghosts (IsWhole v) o → IfSome o (λ o. o.place ≡ p → (t : ℕ) → x ≡ 2 * t → IsAbove v t o.position)
-  at_tail p x now None s = tt
-  at_tail p x now (Some o) s = λ here t is ne. tail_moved f m views id v k at o t s (ap (λ z. m (Tail z)) here ∙ (now ∙ is)) ne
+  at_tail : (p x : ℕ) → p < f.places → m (Tail p) ≡ x → (o : Option OpenTail) → TailFact ghosts (IsWhole v) o → IfSome o (λ o. (t : ℕ) → x ≡ 2 * t → IsAbove v t o.position)
+  at_tail p x near now None s = tt
+  at_tail p x near now (Some o) s = λ t is ne. tail_moved f m views id v k at o p t s near (now ∙ is) ne
 
   tail_small : (p : ℕ) → p < f.places → m (Tail p) ≤ 2 * ghosts.put + 1
   tail_small p near = go (ghosts.home p) refl
@@ -244,18 +246,88 @@ module _ (f : Form) (m : Memory) (views : List View) (id : ℕ) (v : View) (k : 
   head_told p x near now None n = tt
   head_told p x near now (Some h) n = λ t is. let e = (tail_even ghosts.segs ghosts.last ghosts.put ghosts.shut (ghosts.home p) t (sym (k.words.tails p near) ∙ (now ∙ is)) k.words.turns.bit).1 in let l = n.0 in let b = k.words.counts.behind in omega arith
 
+  -- a slot of a place lies so many times the first length from 0 as its segment word says
+  segment_before : (p x : ℕ) → m (Segment p) ≡ x → (q i a : ℕ) → q ≡ p → (n : ℕ) → Shows ghosts q i n → (ghosts.cells q i).0 ≡ a → x * first_len_in v.object ≤ a
+  segment_before p x now q i a here n s cell =
+      let number : x ≡ n = sym now ∙ (ap (λ z. m (Segment z)) (sym here) ∙ (k.words.places q n s.0 s.1).2) in
+      let high : n * f.first_len ≤ (ghosts.segs n).start = numbers_high ghosts.segs ghosts.low ghosts.last ghosts.taken ghosts.put k.words.chain f.first_len (λ b l. (k.words.ranges.lengths b l).0) n (k.words.homes.there q n s.0).0 in
+      let from : (ghosts.segs n).start ≤ (ghosts.cells q i).0 = (k.words.slots q n i s.0 s.1 s.2).begins in
+      subst (λ (z : ℕ × ℕ). z.0 ≤ z.1) (λ j. ((sym number j) * first_len_in (sym own.of_object j), cell j)) (le_trans high from)
+
+  -- of a position that is in hand, the segments before its own
+  segment_told : (p x : ℕ) → m (Segment p) ≡ x → (h : Hand) → HandOk ghosts id (HasNumber v.held v.caller) v.caller h → IsFrom p (x * first_len_in v.object) h
+  segment_told p x now Nothing o = tt
+  segment_told p x now (Reserved a q i y) o = λ here. segment_before p x now q i a here o.1.0 o.1.1 (ap (λ (z : Cell). z.0) o.2)
+  segment_told p x now (Stored a q i y) o = λ here. segment_before p x now q i a here o.1.0 o.1.1 (ap (λ (z : Cell). z.0) o.2)
+  segment_told p x now (Taking a q i l) o = tt
+
+  plain_stage : v.stage ≡ Plain → StageOk ghosts id (HasNumber v.held v.caller) v.caller Plain
+  plain_stage plain = subst (StageOk ghosts id (HasNumber v.held v.caller) v.caller) plain own.stage
+
+  shut_by : (s : Stage) → StageOk ghosts id (HasNumber v.held v.caller) v.caller s → has_closed s ≡ true → ghosts.shut ≡ 1
+  shut_by Away y e = absurd (true≢false (sym e))
+  shut_by Plain y e = absurd (true≢false (sym e))
+  shut_by (Closed q a u) y e = y.1
+  shut_by (Found q a u) y e = absurd (true≢false (sym e))
+  shut_by (Preparing d q a n w) y e = absurd (true≢false (sym e))
+  shut_by (Opened d q a) y e = absurd (true≢false (sym e))
+  shut_by (Linked q a) y e = absurd (true≢false (sym e))
+  shut_by (Observing q a b n p) y e = absurd (true≢false (sym e))
+
+  -- the tail of the current place, under the turn while it is not closed
+  open_told : (p x : ℕ) → p < f.places → m (Tail p) ≡ x → StageOk ghosts id (HasNumber v.held v.caller) v.caller Plain → (ghosts.segs ghosts.now).place ≡ p → x % 2 ≡ 0
+  open_told p x near now st here =
+      let there : (ghosts.segs ghosts.last).place ≡ p = ap (λ z. (ghosts.segs z).place) (sym st.3) ∙ here in
+      let home : ghosts.home p ≡ suc ghosts.last = ap ghosts.home (sym there) ∙ k.words.homes.chain ghosts.last k.words.chain.inside (le_refl _) in
+      let word : m (Tail p) ≡ 2 * ghosts.put + ghosts.shut = k.words.tails p near ∙ (ap (tail_word ghosts.segs ghosts.last ghosts.put ghosts.shut) home ∙ ap (λ b. cond b (2 * ghosts.put + ghosts.shut) (2 * (ghosts.segs (suc ghosts.last)).start + 1)) (eq-eqb ghosts.last ghosts.last refl)) in
+      let shut = st.1 in let x_is : x ≡ 2 * ghosts.put = omega arith in omega arith
+
+  -- a tail is closed, unless it is that of the last segment and that is open
+  closed_told : (p x : ℕ) → p < f.places → m (Tail p) ≡ x → (((ghosts.segs ghosts.last).place ≡ p) × (ghosts.shut ≡ 0) → ⊥) → x % 2 ≡ 1
+  closed_told p x near now never = ⊎_elim
+      (λ (even : x % 2 ≡ 0). absurd (
+      let e = tail_even ghosts.segs ghosts.last ghosts.put ghosts.shut (ghosts.home p) (x / 2) (sym (k.words.tails p near) ∙ (now ∙ (let z : x ≡ 2 * (x / 2) = omega arith in z))) k.words.turns.bit in
+      never ((k.words.homes.there p ghosts.last e.0).1, e.2)))
+      (λ (odd : x % 2 ≢ 0). omega arith)
+      (cases_eq (x % 2) 0)
+
+  -- the closed tail of the first place is above the ends that first was moved past
+  beyond_told : (p e : ℕ) → p < f.places → m (Tail p) ≡ 2 * e + 1 → has_turn v.stage ≡ true → v.notes.scan.first ≡ Some p → IsBeside v p → IfSome v.notes.scan.moved (λ a. a < e)
+  beyond_told p e near now turn first beside =
+      let mine = turn_mine f m views id v k at v.stage own.stage turn in let s = own.notes.scan mine in
+      let there : (ghosts.segs ghosts.low).place ≡ p = subst (λ z. IfSome z (λ q. (ghosts.segs ghosts.low).place ≡ q)) first s.first in
+      let two = k.words.chain.some_slot ghosts.low k.words.chain.inside in
+      ⊎_elim
+      (λ (z : (ghosts.low ≡ ghosts.last) × (ghosts.shut ≡ 1) × (end_of ghosts.segs ghosts.last ghosts.put ghosts.low ≡ e)). absurd (⊎_elim
+      (λ (plain : v.stage ≡ Plain). let a : ghosts.shut ≡ 0 = (plain_stage plain).1 in let b = z.1 in omega arith)
+      (λ (c : (c : ℕ) × (v.notes.scan.current ≡ Some c) × (c ≢ p)).
+      let now_at = (subst (λ z. IfSome z (λ q. (ghosts.now ≤ ghosts.last) × ((ghosts.segs ghosts.now).place ≡ q))) c.1 s.current).1 in
+      c.2 (sym now_at ∙ (ap (λ y. (ghosts.segs y).place) (shut_now f m views id v k at v.stage own.stage mine z.1 ∙ sym z.0) ∙ there)))
+      beside))
+      (λ (z : (ghosts.low < ghosts.last) × ((ghosts.segs (suc ghosts.low)).start ≡ e) × (end_of ghosts.segs ghosts.last ghosts.put ghosts.low ≡ e)).
+      if_some (λ a. a ≤ (ghosts.segs ghosts.low).start) (λ a. a < e) (λ a l. let w = k.words.chain.follows ghosts.low z.0 in let y = z.1 in omega arith) v.notes.scan.moved s.moved)
+      (closed_end f m views id v k at ghosts.low p e (le_refl _) k.words.chain.inside there near now)
+
   pub reads_told : IsShape f → (w : QueueWord) (x : ℕ) → IsWord f.places f.slots w → m w ≡ x → Told w x v
   reads_told s Head x near now = (at_head x now v.notes.head own.notes.head, if_some (λ h. h < ghosts.taken) (λ h. h < x) (λ h l. let e = k.words.counts.head_is in omega arith) v.notes.gone own.notes.gone, (let b = (few_put f m ghosts k.words).1 in let e = k.words.counts.head_is in omega arith), room_told x now v.notes.tail own.notes.tail)
   reads_told s Turn x near now = tt
   reads_told s Current x near now = subst (λ z. x < z) (sym (shaped s).0) (subst (λ z. z < f.places) (sym k.words.links.current_is ∙ now) (k.words.ranges.placed ghosts.now (let o = k.words.links.order in let a = o.1 in let b = o.2 in omega arith)))
   reads_told s First x near now = subst (λ z. x < z) (sym (shaped s).0) (subst (λ z. z < f.places) (sym k.words.links.first_is ∙ now) (k.words.ranges.placed ghosts.low k.words.chain.inside))
-  reads_told s (Tail p) x near now = (at_tail p x now v.notes.tail own.notes.tail, (let a = tail_small p (let l = near.0 in omega arith) in let b = (few_put f m ghosts k.words).0 in omega arith), head_told p x (let l = near.0 in omega arith) now v.notes.head own.notes.head)
+  reads_told s (Tail p) x near now = let l : p < f.places = (let z = near.0 in omega arith) in record {
+    above = at_tail p x l now v.notes.tail own.notes.tail;
+    small = let a = tail_small p l in let b = (few_put f m ghosts k.words).0 in omega arith;
+    head = head_told p x l now v.notes.head own.notes.head;
+    current = λ plain e. open_told p x l now (plain_stage plain) (subst (λ c. IfSome c (λ q. (ghosts.now ≤ ghosts.last) × ((ghosts.segs ghosts.now).place ≡ q))) e (own.notes.scan (plain_stage plain).0.0).current).1;
+    other = λ c plain e ne. closed_told p x l now (λ here. ne (sym (subst (λ c. IfSome c (λ q. (ghosts.now ≤ ghosts.last) × ((ghosts.segs ghosts.now).place ≡ q))) e (own.notes.scan (plain_stage plain).0.0).current).1 ∙ (ap (λ z. (ghosts.segs z).place) (plain_stage plain).3 ∙ here.0)));
+    beyond = λ e turn first beside is. beyond_told p e l (now ∙ is) turn first beside;
+    closed = λ b. closed_told p x l now (λ here. let z : 0 ≡ 1 = sym here.1 ∙ shut_by v.stage own.stage b in omega arith);
+  }
   reads_told s (Start p) x near now = tt
   reads_told s (Length p) x near now = let l = k.words.sizes p (let l = near.0 in omega arith) in let two = s.first_len.0 in let a = l.0 in (subst (λ z. IsSegmentLength (first_len_in z) x) (sym own.of_object) (subst (IsSegmentLength f.first_len) now l), omega arith, subst (λ z. x ≤ z) (sym (shaped s).1) (let b = l.1 in let c = s.slots in omega arith))
   reads_told s (Observers p) x near now = tt
   reads_told s (Done p) x near now = tt
   reads_told s (Next p) x near now = subst (λ z. x < z) (sym (shaped s).0) (subst (λ z. z < f.places) now (k.words.nexts p (let l = near.0 in omega arith)))
-  reads_told s (Segment p) x near now = tt
+  reads_told s (Segment p) x near now = segment_told p x now v.hand own.hand
   reads_told s (Number p i) x near now = tt
   reads_told s (Item p i) x near now = tt
 
@@ -265,7 +337,7 @@ module _ (f : Form) (m : Memory) (views : List View) (id : ℕ) (v : View) (k : 
     rely = λ j u other there x. record {
       grows = entry_grows ghosts ghosts.log ghosts.made ghosts.paid;
       holds = λ h. h;
-      still = λ a. (refl, refl);
+      still = λ a. (refl, refl, refl);
       hand_place = λ a n p e s. (e, s);
       window_place = λ a n p e s. (e, s, refl);
       held = λ a b e. refl;

@@ -53,11 +53,11 @@ entry_grows g log made paid = record {
 pub entry_turn : (g : Ghosts) (log : List EntryMark) (made : List ℕ) (paid : ℕ) → SameTurn g (record g { log = log; made = made; paid = paid })
 entry_turn g log made paid = record { turn = refl; called = refl; shut = refl; prep = refl; plan = refl; written = refl; now = refl; linked = refl; watch = λ n. le_refl _; untold = λ q o. le_refl _; last = refl; low = refl; home = λ q. refl; put = λ s. refl }
 
-abbrev or_zero : Option ℕ → ℕ
+abbrev pub or_zero : Option ℕ → ℕ
 or_zero None = 0
 or_zero (Some x) = x
 
-abbrev is_some : Option ℕ → Bool
+abbrev pub is_some : Option ℕ → Bool
 is_some None = false
 is_some (Some x) = true
 
@@ -94,7 +94,7 @@ module _ (f : Form) (m : Memory) (views : List View) (id : ℕ) (v : View) (k : 
     rely = λ j u other there x. record {
       grows = entry_grows g g.log g.made g.paid;
       holds = λ h. h;
-      still = λ a. (refl, refl);
+      still = λ a. (refl, refl, refl);
       hand_place = λ a n p e s. (e, s);
       window_place = λ a n p e s. (e, s, refl);
       held = λ a b e. refl;
@@ -151,7 +151,7 @@ module _ (f : Form) (m : Memory) (views : List View) (id : ℕ) (v : View) (k : 
         rely = λ j u other there x. record {
           grows = grows;
           holds = λ h. others_entered f.callers g.log g.made g.owner j u.held u.made u.seen h e id v.caller inside other own.0 by v.paid;
-          still = λ a. (refl, refl);
+          still = λ a. (refl, refl, refl);
           hand_place = λ a n p s t. (s, t);
           window_place = λ a n p s t. (s, t, refl);
           held = λ a b s. refl;

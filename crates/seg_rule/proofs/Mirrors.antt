@@ -37,15 +37,15 @@ slots_few (Queue room first_len) = omega arith
 slots_few o = omega arith
 
 abbrev Tails : Here → OpenTail → Type 0
-Tails h t = (t.position < 2 ^ 62) × (t.fits ≡ true → (t.place ≡ h.place) × IfSome t.length (λ n. t.position % n ≡ h.slot))
+Tails h t = (t.position < 2 ^ 62) × (t.fits ≡ true → IfSome t.length (λ n. t.position % n ≡ h.tail_slot))
 
 abbrev Fronts : Here → Front → Type 0
 Fronts h y = (y.place ≡ h.place) × (y.slot ≡ h.slot) × (y.position < 2 ^ 62)
 
 module _ (h : Here) where
-  tail_is : (p x : ℕ) → x < 2 ^ 60 → IfSome (tail_note p x) (Tails h)
-  tail_is p x small = cond_both (eqb (x % 2) 0) (Some (record { place = p; position = x / 2; length = None; number = None; fits = false; full = false })) None (λ o. IfSome o (Tails h))
-      (λ _. (omega arith, λ z. absurd (true≢false (sym z)))) (λ _. tt)
+  tail_is : (p x : ℕ) → x < 2 ^ 60 → (old : Option OpenTail) → IfSome old (Tails h) → IfSome (tail_note p x old) (Tails h)
+  tail_is p x small old was = cond_both (eqb (x % 2) 0) (Some (record { place = p; position = x / 2; length = None; number = None; fits = false; full = false })) old (λ o. IfSome o (Tails h))
+      (λ _. (omega arith, λ z. absurd (true≢false (sym z)))) (λ _. was)
 
   length_is : (p x : ℕ) (o : Option OpenTail) → IfSome o (Tails h) → IfSome (length_note p x o) (Tails h)
   length_is p x None k = tt
@@ -62,13 +62,13 @@ module _ (h : Here) where
 -- the last number that was read is that of the slot i of the place p
 module _ (h : Here) (p i x : ℕ) where
   abbrev now : Here
-  now = record h { place = p; slot = i }
+  now = record h { place = p; slot = i; tail_slot = i }
 
   slot_is : (o : OpenTail) → o.position < 2 ^ 62 → (l : Option ℕ) → o.length ≡ l → IfSome (slot_note p i x o l) (Tails now)
   slot_is o small None e = (small, λ z. absurd (true≢false (sym z)))
   slot_is o small (Some n) e = cond_both (eqb o.place p && eqb (o.position % n) i) (Some (record o { fits = eqb x (2 * o.position); full = not (eqb x (2 * o.position)) })) (Some (record o { fits = false; full = false })) (λ o. IfSome o (Tails now))
       (λ b. let a = and_parts (eqb o.place p) (eqb (o.position % n) i) b in
-      (small, λ z. (eqb-true o.place p a.0, subst (λ r. IfSome r (λ n. o.position % n ≡ i)) (sym e) (eqb-true (o.position % n) i a.1))))
+      (small, λ z. subst (λ r. IfSome r (λ n. o.position % n ≡ i)) (sym e) (eqb-true (o.position % n) i a.1)))
       (λ b. (small, λ z. absurd (true≢false (sym z))))
 
   number_is : (o : Option OpenTail) → IfSome o (Tails h) → IfSome (number_tail p i x o) (Tails now)
@@ -85,7 +85,7 @@ notes_are v h st Head x t k = record { head = (let l = t.2 in omega arith); tail
 notes_are v h st Turn x t k = k
 notes_are v h st Current x t k = record { head = k.head; tail = k.tail; front = k.front }
 notes_are v h st First x t k = record { head = k.head; tail = k.tail; front = k.front }
-notes_are v h st (Tail p) x t k = record { head = k.head; tail = tail_is h p x t.1; front = k.front }
+notes_are v h st (Tail p) x t k = record { head = k.head; tail = tail_is h p x t.small v.notes.tail k.tail; front = k.front }
 notes_are v h st (Start p) x t k = record { head = k.head; tail = k.tail; front = k.front }
 notes_are v h st (Length p) x t k = record { head = k.head; tail = length_is h p x v.notes.tail k.tail; front = k.front }
 notes_are v h st (Observers p) x t k = k
@@ -137,15 +137,15 @@ found_is h p x c (Linked q a) k t = (k, t)
 found_is h p x c (Observing q a b n r) k t = (k, t)
 
 -- what is said of the tail that was closed, and of the position in hand, by other fields
-stage_on : (h h' : Here) → h.closed_place ≡ h'.closed_place → h.closed_at ≡ h'.closed_at → (s : Stage) → StageIs s h → StageIs s h'
-stage_on h h' a b Away k = tt
-stage_on h h' a b Plain k = tt
-stage_on h h' a b (Closed q t u) k = (k.0 ∙ a, k.1 ∙ b)
-stage_on h h' a b (Found q t p) k = (k.0 ∙ a, k.1 ∙ b)
-stage_on h h' a b (Preparing d q t n w) k = k ∙ b
-stage_on h h' a b (Opened d q t) k = tt
-stage_on h h' a b (Linked q t) k = tt
-stage_on h h' a b (Observing q t c n p) k = (k.0 ∙ a, k.1 ∙ b)
+stage_on : (h h' : Here) → h.closed_place ≡ h'.closed_place → h.closed_at ≡ h'.closed_at → h.first_slot ≡ h'.first_slot → (s : Stage) → StageIs s h → StageIs s h'
+stage_on h h' a b c' Away k = tt
+stage_on h h' a b c' Plain k = tt
+stage_on h h' a b c' (Closed q t u) k = (k.0 ∙ a, k.1 ∙ b)
+stage_on h h' a b c' (Found q t p) k = (k.0 ∙ a, k.1 ∙ b)
+stage_on h h' a b c' (Preparing d q t n w) k = (k.0 ∙ b, k.1 ∙ c')
+stage_on h h' a b c' (Opened d q t) k = tt
+stage_on h h' a b c' (Linked q t) k = tt
+stage_on h h' a b c' (Observing q t c n p) k = (k.0 ∙ a, k.1 ∙ b)
 
 paid_hand : (h : Here) (b : Bool) (w : Hand) → HandIs w h → HandIs w (record h { paid = b })
 paid_hand h b Nothing k = k
@@ -165,6 +165,8 @@ module _ (v : View) (h : Here) (k : IsHere v h) where
     turn = turn;
     place = k.place;
     slot = k.slot;
+    tail_slot = k.tail_slot;
+    first_slot = k.first_slot;
     closed_place = k.closed_place;
     position = k.position;
     closed_at = k.closed_at;
@@ -186,12 +188,14 @@ module _ (v : View) (h : Here) (k : IsHere v h) where
     turn = k.turn;
     place = k.place;
     slot = k.slot;
+    tail_slot = k.tail_slot;
+    first_slot = k.first_slot;
     closed_place = k.closed_place;
     position = k.position;
     closed_at = k.closed_at;
     length = let few = slots_few v.object in let l = t.2 in omega arith;
     hand = lengths_are h p x v.hand may k.hand;
-    stage = stage_on h (record h { length = x }) refl refl v.stage k.stage;
+    stage = stage_on h (record h { length = x }) refl refl refl v.stage k.stage;
     notes = notes_are v h v.stage (Length p) x t k.notes;
   }
   told_here (Observers p) x t may near same = let f = found_is h p x v.notes.scan.candidate v.stage k.stage k.turn in
@@ -204,12 +208,14 @@ module _ (v : View) (h : Here) (k : IsHere v h) where
     turn = k.turn;
     place = let l = near.0 in omega arith;
     slot = let l = near.1 in omega arith;
+    tail_slot = let l = near.1 in omega arith;
+    first_slot = k.first_slot;
     closed_place = k.closed_place;
     position = k.position;
     closed_at = k.closed_at;
     length = k.length;
-    hand = subst (λ w. HandIs w (record h { place = p; slot = i })) (sym may) tt;
-    stage = stage_on h (record h { place = p; slot = i }) refl refl v.stage k.stage;
+    hand = subst (λ w. HandIs w (record h { place = p; slot = i; tail_slot = i })) (sym may) tt;
+    stage = stage_on h (record h { place = p; slot = i; tail_slot = i }) refl refl refl v.stage k.stage;
     notes = notes_are v h v.stage (Number p i) x t k.notes;
   }
   told_here (Item p i) x t may near same = noticed_here (told (Item p i) x v).met (noted v.stage (Item p i) x v.notes) v.hand v.stage v.window k.turn k.hand k.stage (notes_are v h v.stage (Item p i) x t k.notes)
@@ -245,12 +251,14 @@ module _ (v : View) (h : Here) (k : IsHere v h) where
     turn = k.turn;
     place = k.place;
     slot = k.slot;
+    tail_slot = k.tail_slot;
+    first_slot = k.first_slot;
     closed_place = k.closed_place;
     position = k.position;
     closed_at = k.closed_at;
     length = k.length;
     hand = paid_hand h b v.hand k.hand;
-    stage = stage_on h (record h { paid = b }) refl refl v.stage k.stage;
+    stage = stage_on h (record h { paid = b }) refl refl refl v.stage k.stage;
     notes = record { head = notes.head; tail = notes.tail; front = notes.front };
   })
 
@@ -287,7 +295,7 @@ module _ (v : View) (h : Here) (k : IsHere v h) where
   loaded_here (Item p i) x t may near = told_here v h k (Item p i) x t may near (λ e. refl)
 
   seen_here : (b : Bool) (u u' : View) (j : Here) → Sees b u u' → IsHere u j → IsHere u' j
-  seen_here true u u' j s y = subst (λ z. IsHere z j) (sym s.4) (record { paid = y.paid; turn = y.turn; place = y.place; slot = y.slot; closed_place = y.closed_place; position = y.position; closed_at = y.closed_at; length = y.length; hand = y.hand; stage = y.stage; notes = y.notes })
+  seen_here true u u' j s y = subst (λ z. IsHere z j) (sym s.4) (record { paid = y.paid; turn = y.turn; place = y.place; slot = y.slot; tail_slot = y.tail_slot; first_slot = y.first_slot; closed_place = y.closed_place; position = y.position; closed_at = y.closed_at; length = y.length; hand = y.hand; stage = y.stage; notes = y.notes })
   seen_here false u u' j s y = subst (λ z. IsHere z j) (sym s) y
 
   pub reads_here : (w : QueueWord) (x : ℕ) (v' : View) → Reads w x v v' → MayLook w v → IsWord (place_count v) (slot_count v) w → IsHere v' (here_after w x h)

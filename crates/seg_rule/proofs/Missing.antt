@@ -2,7 +2,7 @@
 use Rattle.std.proofs.Common.{◌≡◌, ◌≢◌, ℕ, ◌*◌, ◌<◌, List, [], ◌∷◌, ◌++◌, set, sym, refl, ap, ◌∙◌, subst}
 use mathlib.Core.Option.{some}
 use lib.ListN.{get_elem?}
-use Rattle.std.specs.Prelude.{Some}
+use Rattle.std.specs.Prelude.{Some, IfSome}
 use Rattle.seg_rule.specs.declared.form.Form.{Form}
 use Rattle.seg_rule.specs.declared.word.QueueWord.TheVariants.{Head, Turn, Tail}
 use Rattle.seg_rule.specs.declared.view.View.{View}
@@ -13,7 +13,7 @@ use Rattle.seg_rule.specs.Words.{Memory}
 use Rattle.seg_rule.specs.Rule.{Ghosts, IsWhole, HeadNote, TailSeen, TailFact, ViewOk, Kept}
 use Rattle.seg_rule.specs.Steps.{MissesTail, MissesHead, MissesTurn}
 use Rattle.seg_rule.specs.Steps as steps
-use Rattle.seg_rule.proofs.Causes.{turn_lost, head_moved, tail_moved, tail_closed}
+use Rattle.seg_rule.proofs.Causes.{turn_lost, head_moved, tail_moved, place_near, tail_closed, tail_shut}
 use Rattle.seg_rule.proofs.Lawful.{seen_lawful}
 use Rattle.seg_rule.proofs.Looks.{look_kept}
 
@@ -29,7 +29,7 @@ module _ (f : Form) (m : Memory) (views : List View) (id : ℕ) (v : View) (k : 
       let s : TailSeen g (IsWhole v) o = subst (TailFact g (IsWhole v)) noted ok.notes.tail in (
         record v { met = v.met ++ steps.tail_moved o.place o.position y v.notes.scan.current },
         look_kept f m views id v k at v.notes (v.met ++ steps.tail_moved o.place o.position y v.notes.scan.current) ok.notes,
-        record { above = λ u e. tail_moved f m views id v k at o u s (now ∙ e) (λ z. miss (e ∙ ap (λ c. 2 * c) z)); closed = λ u e. tail_closed f m views id v k at o u s (now ∙ e); left = refl },
+        record { above = λ u e. tail_moved f m views id v k at o o.place u s (place_near f m views id v k at o s) (now ∙ e) (λ z. miss (e ∙ ap (λ c. 2 * c) z)); closed = λ u e. (tail_closed f m views id v k at o u s (now ∙ e), tail_shut f m views id v k at o u s (λ w. subst (λ z. IfSome z (λ t. (g.segs g.last).place ≡ t.place)) noted (ok.notes.newest w)) (now ∙ e)); left = refl },
       )
 
   pub head_missed : (h y : ℕ) → v.notes.head ≡ Some h → m Head ≡ y → y ≢ h → (w : View) × Kept f m (set views id w) × MissesHead v h y w

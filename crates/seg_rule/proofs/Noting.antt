@@ -63,10 +63,10 @@ module _ (f : Form) (m : Memory) (views : List View) (id : ℕ) (v : View) (k : 
   abbrev Fronts : Option Front → Type 0
   Fronts = FrontFact g
 
-  tail_ok : (p x : ℕ) → p < f.places → m (Tail p) ≡ x → Tails (tail_note p x)
-  tail_ok p x near now = cond_both (eqb (x % 2) 0) (Some (record { place = p; position = x / 2; length = None; number = None; fits = false; full = false })) None Tails
+  tail_ok : (p x : ℕ) → p < f.places → m (Tail p) ≡ x → (old : Option OpenTail) → Tails old → Tails (tail_note p x old)
+  tail_ok p x near now old was = cond_both (eqb (x % 2) 0) (Some (record { place = p; position = x / 2; length = None; number = None; fits = false; full = false })) old Tails
       (λ e. let even : x % 2 ≡ 0 = eqb-true (x % 2) 0 e in tail_noted f m views id v k at p (x / 2) near (now ∙ (let z : x ≡ 2 * (x / 2) = omega arith in z)))
-      (λ _. tt)
+      (λ _. was)
 
   length_ok : (p x : ℕ) → m (Length p) ≡ x → (o : Option OpenTail) → Tails o → Tails (length_note p x o)
   length_ok p x now None s = tt
@@ -153,7 +153,7 @@ module _ (f : Form) (m : Memory) (views : List View) (id : ℕ) (v : View) (k : 
   low_now e = ⊎_elim (λ (s : g.low ≡ g.now). s) (λ (n : g.low ≢ g.now). let o = k.words.links.order in absurd (k.words.chain.apart g.low g.now (le_refl _) (let a = o.0 in omega arith) now_last e)) (cases_eq g.low g.now)
 
   -- the closed tail of a segment of the chain is its end
-  closed_end : (n p e : ℕ) → g.low ≤ n → n ≤ g.last → (g.segs n).place ≡ p → p < f.places → m (Tail p) ≡ 2 * e + 1 → ((n ≡ g.last) × (g.shut ≡ 1) × (end_of g.segs g.last g.put n ≡ e)) ⊎ ((n < g.last) × ((g.segs (suc n)).start ≡ e) × (end_of g.segs g.last g.put n ≡ e))
+  pub closed_end : (n p e : ℕ) → g.low ≤ n → n ≤ g.last → (g.segs n).place ≡ p → p < f.places → m (Tail p) ≡ 2 * e + 1 → ((n ≡ g.last) × (g.shut ≡ 1) × (end_of g.segs g.last g.put n ≡ e)) ⊎ ((n < g.last) × ((g.segs (suc n)).start ≡ e) × (end_of g.segs g.last g.put n ≡ e))
   closed_end n p e low high there near now =
       let home : g.home p ≡ suc n = ap g.home (sym there) ∙ k.words.homes.chain n low high in
       let word : m (Tail p) ≡ tail_word g.segs g.last g.put g.shut (suc n) = k.words.tails p near ∙ ap (tail_word g.segs g.last g.put g.shut) home in
@@ -174,6 +174,7 @@ module _ (f : Form) (m : Memory) (views : List View) (id : ℕ) (v : View) (k : 
       current = s.current;
       length = s.length;
       next = s.next;
+      moved = s.moved;
       past = head_fact (IsPast g) (is_read o.current x) h o.past
           (λ b. some_fact (IsPast g) h (λ y e. (noted_head y e, inl (low_now (there ∙ sym (read_fact (λ p. (g.now ≤ g.last) × ((g.segs g.now).place ≡ p)) x o.current s.current b).1))))) s.past;
       inside = s.inside;
@@ -186,6 +187,7 @@ module _ (f : Form) (m : Memory) (views : List View) (id : ℕ) (v : View) (k : 
       current = (now_last, there);
       length = s.length;
       next = s.next;
+      moved = s.moved;
       past = head_fact (IsPast g) (is_read o.first x) h o.past
           (λ b. some_fact (IsPast g) h (λ y e. (noted_head y e, inl (low_now (read_fact (λ p. (g.segs g.low).place ≡ p) x o.first s.first b ∙ sym there))))) s.past;
       inside = s.inside;
@@ -198,6 +200,7 @@ module _ (f : Form) (m : Memory) (views : List View) (id : ℕ) (v : View) (k : 
       current = s.current;
       length = s.length;
       next = s.next;
+      moved = s.moved;
       past = s.past;
       inside = head_fact (λ a. a < end_of g.segs g.last g.put g.low) (is_read o.first p && is_below h t) h o.inside
           (λ b. let a = and_parts (is_read o.first p) (is_below h t) b in
@@ -214,6 +217,7 @@ module _ (f : Form) (m : Memory) (views : List View) (id : ℕ) (v : View) (k : 
       current = s.current;
       length = s.length;
       next = s.next;
+      moved = s.moved;
       past = head_fact (IsPast g) (is_read o.first p && is_below h e) h o.past
           (λ b. let a = and_parts (is_read o.first p) (is_below h e) b in let there = read_fact (λ q. (g.segs g.low).place ≡ q) p o.first s.first a.0 in
           below_fact (IsPast g) e h (λ y i l. (
@@ -342,46 +346,77 @@ module _ (f : Form) (m : Memory) (views : List View) (id : ℕ) (v : View) (k : 
       gone_ok t o.head s.head o.scan (s.scan t) p i x now y (has_turn v.stage) a.0 a.1)
       s.gone
 
+  -- No load changes the place of the tail noted, but for one of an open tail, which is that of the last place.
+
+  abbrev Newest : Option OpenTail → Type 0
+  Newest o = IfSome o (λ t. (g.segs g.last).place ≡ t.place)
+
+  tail_newest : (p x : ℕ) → p < f.places → m (Tail p) ≡ x → (old : Option OpenTail) → Newest old → Newest (tail_note p x old)
+  tail_newest p x near now old was = cond_both (eqb (x % 2) 0) (Some (record { place = p; position = x / 2; length = None; number = None; fits = false; full = false })) old Newest
+      (λ e. let even : x % 2 ≡ 0 = eqb-true (x % 2) 0 e in
+      let l = tail_even g.segs g.last g.put g.shut (g.home p) (x / 2) (sym (k.words.tails p near) ∙ (now ∙ (let z : x ≡ 2 * (x / 2) = omega arith in z))) k.words.turns.bit in (k.words.homes.there p g.last l.0).1)
+      (λ _. was)
+
+  length_newest : (p x : ℕ) (o : Option OpenTail) → Newest o → Newest (length_note p x o)
+  length_newest p x None s = tt
+  length_newest p x (Some o) s = cond_both (eqb o.place p) (Some (record o { length = Some x; fits = false; full = false })) (Some o) Newest (λ _. s) (λ _. s)
+
+  segment_newest : (p x : ℕ) (o : Option OpenTail) → Newest o → Newest (segment_note p x o)
+  segment_newest p x None s = tt
+  segment_newest p x (Some o) s = cond_both (eqb o.place p) (Some (record o { number = Some x })) (Some o) Newest (λ _. s) (λ _. s)
+
+  slot_newest : (p i x : ℕ) (o : OpenTail) → (g.segs g.last).place ≡ o.place → (l : Option ℕ) → Newest (slot_note p i x o l)
+  slot_newest p i x o s None = s
+  slot_newest p i x o s (Some n) = cond_both (eqb o.place p && eqb (o.position % n) i) (Some (record o { fits = eqb x (2 * o.position); full = not (eqb x (2 * o.position)) })) (Some (record o { fits = false; full = false })) Newest (λ _. s) (λ _. s)
+
+  number_newest : (p i x : ℕ) (o : Option OpenTail) → Newest o → Newest (number_tail p i x o)
+  number_newest p i x None s = tt
+  number_newest p i x (Some o) s = slot_newest p i x o s o.length
+
   pub noted_ok : (w : QueueWord) (x : ℕ) → IsWord f.places f.slots w → m w ≡ x → (o : Notes) → NotesOk g id (IsWhole v) o → NotesOk g id (IsWhole v) (noted v.stage w x o)
-  noted_ok Head x near now o s = record { head = head_noted f m views id v k at x now; gone = s.gone; tail = s.tail; front = s.front; scan = s.scan }
+  noted_ok Head x near now o s = record { head = head_noted f m views id v k at x now; gone = s.gone; tail = s.tail; newest = s.newest; front = s.front; scan = s.scan }
   noted_ok Turn x near now o s = s
-  noted_ok Current x near now o s = record { head = s.head; gone = s.gone; tail = s.tail; front = s.front; scan = λ t. current_ok t o.head s.head o.scan (s.scan t) x now }
-  noted_ok First x near now o s = record { head = s.head; gone = s.gone; tail = s.tail; front = s.front; scan = λ t. first_ok t o.head s.head o.scan (s.scan t) x now }
+  noted_ok Current x near now o s = record { head = s.head; gone = s.gone; tail = s.tail; newest = s.newest; front = s.front; scan = λ t. current_ok t o.head s.head o.scan (s.scan t) x now }
+  noted_ok First x near now o s = record { head = s.head; gone = s.gone; tail = s.tail; newest = s.newest; front = s.front; scan = λ t. first_ok t o.head s.head o.scan (s.scan t) x now }
   noted_ok (Tail p) x near now o s = let l : p < f.places = (let z = near.0 in omega arith) in
-      record { head = s.head; gone = s.gone; tail = tail_ok p x l now; front = s.front; scan = λ t. tail_scan_ok t o.head s.head o.scan (s.scan t) p x l now }
+      record { head = s.head; gone = s.gone; tail = tail_ok p x l now o.tail s.tail; newest = λ w. tail_newest p x l now o.tail (s.newest w); front = s.front; scan = λ t. tail_scan_ok t o.head s.head o.scan (s.scan t) p x l now }
   noted_ok (Start p) x near now o s = record {
     head = s.head;
     gone = s.gone;
     tail = s.tail;
+    newest = s.newest;
     front = s.front;
     scan = λ t. let c = s.scan t in
-        record { first = c.first; current = c.current; length = c.length; next = c.next; past = c.past; inside = c.inside; candidate = start_ok t o.head s.head o.scan c p x now o.scan.candidate c.candidate };
+        record { first = c.first; current = c.current; length = c.length; next = c.next; past = c.past; inside = c.inside; moved = c.moved; candidate = start_ok t o.head s.head o.scan c p x now o.scan.candidate c.candidate };
   }
   noted_ok (Length p) x near now o s = record {
     head = s.head;
     gone = s.gone;
     tail = length_ok p x now o.tail s.tail;
+    newest = λ w. length_newest p x o.tail (s.newest w);
     front = s.front;
     scan = λ t. let c = s.scan t in
-        record { first = c.first; current = c.current; length = length_at t o.head s.head o.scan c p x now; next = c.next; past = c.past; inside = c.inside; candidate = c.candidate };
+        record { first = c.first; current = c.current; length = length_at t o.head s.head o.scan c p x now; next = c.next; past = c.past; inside = c.inside; moved = c.moved; candidate = c.candidate };
   }
   noted_ok (Observers p) x near now o s = s
   noted_ok (Done p) x near now o s = record {
     head = s.head;
     gone = s.gone;
     tail = s.tail;
+    newest = s.newest;
     front = s.front;
     scan = λ t. let c = s.scan t in
-        record { first = c.first; current = c.current; length = c.length; next = c.next; past = c.past; inside = c.inside; candidate = done_ok t o.head s.head o.scan c p x now o.scan.candidate c.candidate };
+        record { first = c.first; current = c.current; length = c.length; next = c.next; past = c.past; inside = c.inside; moved = c.moved; candidate = done_ok t o.head s.head o.scan c p x now o.scan.candidate c.candidate };
   }
   noted_ok (Next p) x near now o s = record {
     head = s.head;
     gone = s.gone;
     tail = s.tail;
+    newest = s.newest;
     front = s.front;
     scan = λ t. let c = s.scan t in
-        record { first = c.first; current = c.current; length = c.length; next = next_at t o.head s.head o.scan c p x now; past = c.past; inside = c.inside; candidate = c.candidate };
+        record { first = c.first; current = c.current; length = c.length; next = next_at t o.head s.head o.scan c p x now; past = c.past; inside = c.inside; moved = c.moved; candidate = c.candidate };
   }
-  noted_ok (Segment p) x near now o s = record { head = s.head; gone = s.gone; tail = segment_ok p x now o.tail s.tail; front = s.front; scan = s.scan }
-  noted_ok (Number p i) x near now o s = record { head = s.head; gone = number_gone_ok p i x now o s o.head refl; tail = number_tail_ok p i x now o.tail s.tail; front = number_front_ok p i x now o.head s.head; scan = s.scan }
-  noted_ok (Item p i) x near now o s = record { head = s.head; gone = s.gone; tail = s.tail; front = item_ok p i x now o.front s.front; scan = s.scan }
+  noted_ok (Segment p) x near now o s = record { head = s.head; gone = s.gone; tail = segment_ok p x now o.tail s.tail; newest = λ w. segment_newest p x o.tail (s.newest w); front = s.front; scan = s.scan }
+  noted_ok (Number p i) x near now o s = record { head = s.head; gone = number_gone_ok p i x now o s o.head refl; tail = number_tail_ok p i x now o.tail s.tail; newest = λ w. number_newest p i x o.tail (s.newest w); front = number_front_ok p i x now o.head s.head; scan = s.scan }
+  noted_ok (Item p i) x near now o s = record { head = s.head; gone = s.gone; tail = s.tail; newest = s.newest; front = item_ok p i x now o.front s.front; scan = s.scan }

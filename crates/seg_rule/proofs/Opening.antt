@@ -1,5 +1,5 @@
 -- Tail open: the place that was prepared becomes the home of a new last segment.
-use Rattle.std.proofs.Common.{◌≡◌, ℕ, zero, suc, ◌+◌, ◌*◌, ◌/◌, ◌%◌, ◌<◌, ◌≤◌, ◌≢◌, ◌⊎◌, inl, inr, ⊎_elim, eqb, cond, true, false, List, set, sym, refl, ap, ◌∙◌, subst, arith, le_refl, eq-eqb, ne_eqb}
+use Rattle.std.proofs.Common.{◌≡◌, ℕ, zero, suc, ◌+◌, ◌*◌, ◌/◌, ◌%◌, ◌<◌, ◌≤◌, ◌≢◌, ◌⊎◌, inl, inr, ⊎_elim, eqb, cond, true, false, true≢false, mod-lt, List, set, sym, refl, ap, ◌∙◌, subst, arith, le_refl, eq-eqb, ne_eqb}
 use Rattle.std.proofs.lemmas.Bool.{cases_lt, cases_eq, cases_Bool}
 use mathlib.Core.Option.{some}
 use lib.ListN.{get_elem?}
@@ -7,26 +7,30 @@ use Rattle.std.specs.Prelude.{Option, Some, None}
 use Rattle.passes.specs.Numbers.{HasNumber}
 use Rattle.seg_rule.specs.declared.word.QueueWord.TheVariants.{Tail, Start, Length, Done, Next, Segment, Number, Item}
 use Rattle.seg_rule.specs.declared.view.View.{View}
+use Rattle.seg_rule.specs.declared.view.OpenTail.{OpenTail}
 use Rattle.seg_rule.specs.declared.view.Window.{Window}
 use Rattle.seg_rule.specs.declared.view.Hand.{Hand}
 use Rattle.seg_rule.specs.declared.view.Hand.TheVariants.{Nothing, Reserved, Stored, Taking}
-use Rattle.seg_rule.specs.declared.view.Stage.TheVariants.{Preparing, Opened}
+use Rattle.seg_rule.specs.declared.view.Stage.TheVariants.{Preparing}
 use Rattle.seg_rule.specs.Words.{Memory, update}
 use Rattle.seg_rule.specs.Chain.{Seg, Segs, put_seg, end_of}
 use Rattle.seg_rule.specs.Slots.{free, Cell, holder}
 use Rattle.seg_rule.specs.Places.{Cells, SlotsOk, put_in}
 use Rattle.seg_rule.specs.declared.form.Form.{Form}
-use Rattle.seg_rule.specs.Rule.{Ghosts, IsWhole, HandOk, InHand, StageOk, WindowFact, ViewOk, tail_word, watched, watches, in_range, flag, passed, TailsOk, FollowsLength, Words, Kept}
+use Rattle.seg_rule.specs.Rule.{Ghosts, IsWhole, TailSeen, HandOk, InHand, StageOk, WindowFact, ViewOk, tail_word, watched, watches, in_range, flag, passed, TailsOk, FollowsLength, Words, Kept}
 use Rattle.seg_rule.specs.Rely.{IsLate, Grows, Rely}
 use Rattle.seg_layout.specs.Lengths.{IsSegmentLength}
-use Rattle.seg_rule.specs.Steps.{on_stage}
+use Rattle.seg_rule.specs.Steps.{fit_tail, opened_by}
 use Rattle.seg_rule.proofs.Chains.{opens}
 use Rattle.seg_rule.proofs.Places.{open_slots}
-use Rattle.seg_rule.proofs.Stays.{notes_alone, hand_stays, window_fact_stays}
+use Rattle.seg_rule.proofs.Stays.{notes_with, hand_stays, window_fact_stays}
 use Rattle.seg_rule.proofs.Frames.{kept_after}
 use Rattle.seg_rule.proofs.Sums.{total_zero}
 use Rattle.seg_rule.proofs.Preps.{no_prep}
 use Rattle.seg_rule.proofs.HeadTakes.{passed_low}
+use Rattle.seg_rule.proofs.Entries.{whole_alone}
+use Rattle.seg_rule.proofs.Looks.{or_zero, is_some}
+use Rattle.atomic_table.proofs.Lists.{one_turn}
 
 -- a slot in hand is one of a place that shows a segment
 shown_in_hand : (g : Ghosts) (j : ℕ) (active : Type 0) (c : ℕ) (w : Hand) (q i : ℕ) → HandOk g j active c w → InHand w q i → g.prep ≢ suc q
@@ -134,7 +138,7 @@ module _ (f : Form) (m : Memory) (views : List View) (id : ℕ) (v : View) (k : 
   others j u other x = record {
     grows = grows;
     holds = λ h. h;
-    still = λ a. (refl, refl);
+    still = λ a. absurd (other (whole_alone f g j id u v x ok a st.0.2));
     hand_place = λ a o p s r. place_stays a o s r;
     window_place = λ a o p s r. let z = place_stays a o s r in (z.0, z.1, refl);
     held = held_stays j u x;
@@ -143,13 +147,46 @@ module _ (f : Form) (m : Memory) (views : List View) (id : ℕ) (v : View) (k : 
     turns = λ s. s;
   }
 
-  mine : ViewOk f g' id (on_stage v (Opened d q t))
+  all_written : (a : ℕ) → a < 4 + n → a < g.written
+  all_written a l = subst (λ (z : ℕ). a < z) (sym st.6) l
+
+  first_ok : (i : ℕ) → i < g.plan.len → (m (Number q i) ≡ 2 * first_in i) × (g.put ≤ first_in i) × (first_in i < g.put + g.plan.len) × (first_in i % g.plan.len ≡ i)
+  first_ok i l = let x = k.words.preps.num_is q i prep_q l (all_written (4 + i) (let a = len_n in omega arith)) in let p : ℕ = x.0 in let half : first_in i ≡ p = (let y = x.1 in omega arith) in
+      (x.1 ∙ ap (λ (z : ℕ). 2 * z) (sym half), (let y = x.2 in let d = plan_put in omega arith), (let y = x.3 in let d = plan_put in omega arith), ap (λ (z : ℕ). z % g.plan.len) half ∙ x.4)
+
+  abbrev note : OpenTail
+  note = fit_tail q t n None false
+
+  -- the first slot of the new segment is free for its start, and its tail is there
+  noted : TailSeen g' (IsWhole v) note
+  noted = record {
+    segment = suc g.last;
+    there = record { opened = le_refl _; there = ap (λ (s : Seg). s.place) new_seg ∙ ap (λ (s : Seg). s.place) st.5; below = let z = st.4 in omega arith; after = λ l. absurd (omega arith) };
+    exact = λ w. sym st.4;
+    sized = λ a e. inr (sym (ap or_zero e) ∙ (sym len_n ∙ ap (λ (s : Seg). s.len) (sym new_seg)));
+    numbered = λ a e. absurd (true≢false (sym (ap is_some e)));
+    slot = λ a e b. inr (subst (λ (z : ℕ). cells' q (t % z) ≡ (t, free)) (ap or_zero e) (free_at (t % n) refl));
+    turned = λ b. absurd (true≢false (sym b));
+  }
+    where
+      free_at : (i : ℕ) → t % n ≡ i → cells' q i ≡ (t, free)
+      free_at i e =
+          let two = (k.words.preps.inside q prep_q).3 in let len = len_n in let near : i < g.plan.len = subst (λ (z : ℕ). z < g.plan.len) e (subst (λ (z : ℕ). t % n < z) (sym len) (mod-lt t (omega arith))) in
+          let o = first_ok i near in let put = st.4 in
+          let same : t % g.plan.len ≡ first_in i % g.plan.len = ap (λ (z : ℕ). t % z) len ∙ (e ∙ sym o.3) in
+          let first : t ≡ first_in i = one_turn t (first_in i) g.plan.len (let a = o.1 in omega arith) (let a = o.2 in omega arith) same in
+          ap (λ b. cond b (first_in i, free) (g.cells q i)) (eq-eqb q q refl) ∙ (λ j. (sym first j, free))
+
+  abbrev after : View
+  after = opened_by (Preparing d q t n (4 + n)) v
+
+  mine : ViewOk f g' id after
   mine = record {
     of_object = ok.of_object;
     of_callers = ok.of_callers;
     holds = ok.holds;
     joint = ok.joint;
-    notes = notes_alone g g' k.words.chain grows id (IsWhole v) (λ a. (refl, refl)) v.notes ok.notes;
+    notes = notes_with g g' k.words.chain grows id (IsWhole v) (λ a. (refl, refl)) (Some note) noted (ap (λ (s : Seg). s.place) new_seg ∙ ap (λ (s : Seg). s.place) st.5) v.notes ok.notes;
     hand = hand_stays g g' k.words.chain grows k.words.homes id active v.caller v.hand (λ a o p s r. place_stays a o s r) (held_stays id v ok) ok.hand;
     ties = λ a b e. ok.ties a b (given_by id a b e);
     stage = (st.0, refl, refl, ap suc st.3, linked_now, ap (λ (s : Seg). s.place) new_seg ∙ ap (λ (s : Seg). s.place) st.5, ap (λ (s : Seg). s.start) new_seg ∙ ap (λ (s : Seg). s.start) st.5, ap (λ (s : Seg). s.place) (old_seg g.now (let o = k.words.links.order in let a = o.1 in let b = o.2 in omega arith)) ∙ (ap (λ (z : ℕ). (g.segs z).place) st.3 ∙ st.7));
@@ -164,9 +201,6 @@ module _ (f : Form) (m : Memory) (views : List View) (id : ℕ) (v : View) (k : 
       none : (w : Option Window) → WindowFact g w → flag (in_range (suc g.last) w) ≡ 0
       none None x = refl
       none (Some w) x = ⊎_elim (λ (b : in_range (suc g.last) (Some w) ≡ true). absurd (let y = (x.opened (suc g.last) b).0 in omega arith)) (λ (b : in_range (suc g.last) (Some w) ≡ false). ap flag b) (cases_Bool (in_range (suc g.last) (Some w)))
-
-  all_written : (a : ℕ) → a < 4 + n → a < g.written
-  all_written a l = subst (λ (z : ℕ). a < z) (sym st.6) l
 
   -- what is said of the segment of a place: of q it is the new one, and of another place as before
   by_place : (F : ℕ → ℕ → Type 0) → F q (suc g.last) → ((a o : ℕ) → q ≢ a → g.home a ≡ suc o → o ≤ g.last → g.prep ≢ suc a → F a o) → (a o : ℕ) → home' a ≡ suc o → F a o
@@ -272,12 +306,8 @@ module _ (f : Form) (m : Memory) (views : List View) (id : ℕ) (v : View) (k : 
       watched_old zero s = refl
       watched_old (suc o) s = (k.words.preps.apart q o prep_q s).1
 
-      first_ok : (i : ℕ) → i < g.plan.len → (m (Number q i) ≡ 2 * first_in i) × (g.put ≤ first_in i) × (first_in i < g.put + g.plan.len) × (first_in i % g.plan.len ≡ i)
-      first_ok i l = let x = k.words.preps.num_is q i prep_q l (all_written (4 + i) (let a = len_n in omega arith)) in let p : ℕ = x.0 in let half : first_in i ≡ p = (let y = x.1 in omega arith) in
-          (x.1 ∙ ap (λ (z : ℕ). 2 * z) (sym half), (let y = x.2 in let d = plan_put in omega arith), (let y = x.3 in let d = plan_put in omega arith), ap (λ (z : ℕ). z % g.plan.len) half ∙ x.4)
-
-  pub opened_kept : Kept f (update m (Tail q) (2 * t)) (set views id (on_stage v (Opened d q t)))
-  opened_kept = kept_after f m (update m (Tail q) (2 * t)) views k id v (on_stage v (Opened d q t)) g' at words record {
+  pub opened_kept : Kept f (update m (Tail q) (2 * t)) (set views id after)
+  opened_kept = kept_after f m (update m (Tail q) (2 * t)) views k id v after g' at words record {
     rely = λ j u other there y. others j u other y;
     mine = mine;
     paid_by = refl;

@@ -146,7 +146,7 @@ module _ (f : Form) (m : Memory) (views : List View) (id : ℕ) (v : View) (k : 
       rely = λ j u other there x. record {
         grows = grows;
         holds = λ h. h;
-        still = λ a. (refl, refl);
+        still = λ a. (refl, refl, refl);
         hand_place = hand_apart j u there x;
         window_place = window_apart j u there;
         held = λ a b e. refl;
@@ -159,7 +159,7 @@ module _ (f : Form) (m : Memory) (views : List View) (id : ℕ) (v : View) (k : 
         of_callers = ok.of_callers;
         holds = ok.holds;
         joint = ok.joint;
-        notes = notes_alone g g' k.words.chain grows id (IsWhole v) (λ a. (refl, refl)) v.notes ok.notes;
+        notes = notes_alone g g' k.words.chain grows id (IsWhole v) (λ a. (refl, refl)) st.0.0 refl v.notes ok.notes;
         hand = hand_stays g g' k.words.chain grows k.words.homes id active v.caller v.hand (hand_apart id v at ok) (λ a b e. refl) ok.hand;
         ties = ok.ties;
         stage = (st.0, st.1, refl, st.3, st.4, refl, refl, st.5);
@@ -190,7 +190,7 @@ module _ (f : Form) (m : Memory) (views : List View) (id : ℕ) (v : View) (k : 
       rely = λ j u other there x. record {
         grows = more_grows;
         holds = λ h. h;
-        still = λ a. (refl, refl);
+        still = λ a. (refl, refl, refl);
         hand_place = λ a n p e s. (e, s);
         window_place = λ a n p e s. (e, s, refl);
         held = λ a b e. refl;
@@ -203,7 +203,7 @@ module _ (f : Form) (m : Memory) (views : List View) (id : ℕ) (v : View) (k : 
         of_callers = ok.of_callers;
         holds = ok.holds;
         joint = ok.joint;
-        notes = notes_alone g more k.words.chain more_grows id (IsWhole v) (λ a. (refl, refl)) v.notes ok.notes;
+        notes = notes_alone g more k.words.chain more_grows id (IsWhole v) (λ a. (refl, refl)) at_prep.0.0 refl v.notes ok.notes;
         hand = ok.hand;
         ties = ok.ties;
         stage = (at_prep.0, at_prep.1, at_prep.2, at_prep.3, at_prep.4, at_prep.5, refl, at_prep.7);

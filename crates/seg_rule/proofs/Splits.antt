@@ -53,7 +53,7 @@ module _ (f : Form) (g : Ghosts) (owner' : ℕ → ℕ) where
   moved_rely j u holds = record {
     grows = calm g g.log g.made owner' g.paid g.now g.linked g.untold g.watch g.turn g.called g.shut g.prep g.plan g.written (le_refl _);
     holds = holds;
-    still = λ a. (refl, refl);
+    still = λ a. (refl, refl, refl);
     hand_place = λ a n p e s. (e, s);
     window_place = λ a n p e s. (e, s, refl);
     held = λ a b e. refl;

@@ -35,10 +35,10 @@ owned_by a None = tt
 owned_by a (Some w) = a
 
 pub nothing_scanned : (g : Ghosts) → ScanSeen g blank_scan
-nothing_scanned g = record { first = tt; current = tt; length = tt; next = tt; past = tt; inside = tt; candidate = tt }
+nothing_scanned g = record { first = tt; current = tt; length = tt; next = tt; past = tt; inside = tt; moved = tt; candidate = tt }
 
 pub blank_ok : (g : Ghosts) (j : ℕ) (whole : Type 0) → NotesOk g j whole blank
-blank_ok g j whole = record { head = tt; gone = tt; tail = tt; front = tt; scan = λ t. nothing_scanned g }
+blank_ok g j whole = record { head = tt; gone = tt; tail = tt; newest = λ w. tt; front = tt; scan = λ t. nothing_scanned g }
 
 -- with the chain as it was before the step
 module _ (g g' : Ghosts) (c : ChainOk g.segs g.low g.last g.taken g.put) (k : Grows g g') where
@@ -173,28 +173,41 @@ module _ (g g' : Ghosts) (c : ChainOk g.segs g.low g.last g.taken g.put) (k : Gr
           o.past x.past;
       inside = if_some (λ a. a < end_of g.segs g.last g.put g.low) (λ a. a < end_of g'.segs g'.last g'.put g'.low)
           (λ a y. subst (λ (z : ℕ). a < end_of g'.segs g'.last g'.put z) (sym s.low) (le_trans y (end_up g.low c.inside))) o.inside x.inside;
+      moved = if_some (λ e. e ≤ (g.segs g.low).start) (λ e. e ≤ (g'.segs g'.low).start)
+          (λ e y. subst (λ (z : ℕ). e ≤ (g'.segs z).start) (sym s.low) (subst (λ (z : Seg). e ≤ z.start) (sym (k.segs g.low c.inside)) y)) o.moved x.moved;
       candidate = if_some (CandidateSeen g) (CandidateSeen g') candidate_stays o.candidate x.candidate;
     }
 
   module _ (j : ℕ) (whole : Type 0) (still : whole → (g'.put ≡ g.put) × (g'.taken ≡ g.taken)) where
-    pub notes_stay : HomeOk g.segs g.low g.last g.home → (g'.turn ≡ suc j → g.turn ≡ suc j) → (g.turn ≡ suc j → SameChain g g') → (o : Notes) → NotesOk g j whole o → NotesOk g' j whole o
-    notes_stay h got same o x = record {
+    -- an open tail that was noted is that of the last place still
+    last_noted : g'.last ≡ g.last → (o : Option OpenTail) → IfSome o (λ t. (g.segs g.last).place ≡ t.place) → IfSome o (λ t. (g'.segs g'.last).place ≡ t.place)
+    last_noted l o x = if_some (λ t. (g.segs g.last).place ≡ t.place) (λ t. (g'.segs g'.last).place ≡ t.place)
+        (λ t e. ap (λ (z : ℕ). (g'.segs z).place) l ∙ (ap (λ (z : Seg). z.place) (k.segs g.last (le_refl g.last)) ∙ e)) o x
+
+    pub notes_stay : HomeOk g.segs g.low g.last g.home → (g'.turn ≡ suc j → g.turn ≡ suc j) → (g.turn ≡ suc j → SameChain g g') → (whole → g'.last ≡ g.last) → (o : Notes) → NotesOk g j whole o → NotesOk g' j whole o
+    notes_stay h got same last o x = record {
       head = head_stays whole still o.head x.head;
       gone = if_some (λ a. a < g.taken) (λ a. a < g'.taken) (λ a y. le_trans y k.taken_up) o.gone x.gone;
       tail = tail_stays whole still o.tail x.tail;
+      newest = λ w. ⊎_elim (λ (a : whole). last_noted (last a) o.tail (x.newest (inl a))) (λ (t : g'.turn ≡ suc j). last_noted (same (got t)).last o.tail (x.newest (inr (got t)))) w;
       front = front_stays o.front x.front;
       scan = λ t. scan_stays (same (got t)) h o.scan (x.scan (got t));
     }
 
-    -- the same, but for what was read of the chain
-    pub notes_alone : (o : Notes) → NotesOk g j whole o → NotesOk g' j whole (no_scan o)
-    notes_alone o x = record {
+    -- the same with another tail, but for what was read of the chain
+    pub notes_with : (tail : Option OpenTail) → TailFact g' whole tail → IfSome tail (λ t. (g'.segs g'.last).place ≡ t.place) → (o : Notes) → NotesOk g j whole o → NotesOk g' j whole (record (no_scan o) { tail = tail })
+    notes_with tail fact newest o x = record {
       head = head_stays whole still o.head x.head;
       gone = if_some (λ a. a < g.taken) (λ a. a < g'.taken) (λ a y. le_trans y k.taken_up) o.gone x.gone;
-      tail = tail_stays whole still o.tail x.tail;
+      tail = fact;
+      newest = λ w. newest;
       front = front_stays o.front x.front;
       scan = λ t. nothing_scanned g';
     }
+
+    -- the same for the holder of the turn, but for what was read of the chain
+    pub notes_alone : g.turn ≡ suc j → g'.last ≡ g.last → (o : Notes) → NotesOk g j whole o → NotesOk g' j whole (no_scan o)
+    notes_alone mine last o x = notes_with o.tail (tail_stays whole still o.tail x.tail) (last_noted last o.tail (x.newest (inr mine))) o x
 
   module _ (h : HomeOk g.segs g.low g.last g.home) where
     pub shows_stays : (q i n : ℕ) → (g'.home q ≡ suc n) × (g'.prep ≢ suc q) → Shows g q i n → Shows g' q i n
@@ -294,7 +307,7 @@ view_stays f g g' j v c h r x = record {
   of_callers = x.of_callers;
   holds = r.holds x.holds;
   joint = x.joint;
-  notes = notes_stay g g' c r.grows j (IsWhole v) r.still h r.turns (λ e. same_chain g g' (r.turned e)) v.notes x.notes;
+  notes = notes_stay g g' c r.grows j (IsWhole v) (λ w. let s = r.still w in (s.0, s.1)) h r.turns (λ e. same_chain g g' (r.turned e)) (λ w. (r.still w).2) v.notes x.notes;
   hand = hand_stays g g' c r.grows h j (HasNumber v.held v.caller) v.caller v.hand r.hand_place r.held x.hand;
   ties = λ q i e. x.ties q i (r.given q i e);
   stage = stage_stays g g' c r.grows j (HasNumber v.held v.caller) v.caller v.stage r.turned r.turns x.stage;

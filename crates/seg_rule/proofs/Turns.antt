@@ -99,7 +99,7 @@ module _ (f : Form) (m : Memory) (views : List View) (id : ℕ) (v : View) (k : 
         rely = λ j u other there x. record {
           grows = grows;
           holds = λ h. others_count f.callers g.log g.made g.owner j u.held u.made u.seen h id c inside other own.0;
-          still = λ a. (refl, refl);
+          still = λ a. (refl, refl, refl);
           hand_place = λ a n p e s. (e, s);
           window_place = λ a n p e s. (e, s, refl);
           held = λ a b e. refl;
@@ -164,7 +164,7 @@ module _ (f : Form) (m : Memory) (views : List View) (id : ℕ) (v : View) (k : 
         rely = λ j u other there x. record {
           grows = grows;
           holds = λ h. h;
-          still = λ a. (refl, refl);
+          still = λ a. (refl, refl, refl);
           hand_place = λ a n p e s. (e, s);
           window_place = λ a n p e s. (e, s, refl);
           held = λ a b e. refl;
@@ -177,7 +177,7 @@ module _ (f : Form) (m : Memory) (views : List View) (id : ℕ) (v : View) (k : 
           of_callers = ok.of_callers;
           holds = ok.holds;
           joint = ok.joint;
-          notes = notes_alone g g' k.words.chain grows id (IsWhole v) (λ a. (refl, refl)) v.notes ok.notes;
+          notes = notes_alone g g' k.words.chain grows id (IsWhole v) (λ a. (refl, refl)) st.0.0 refl v.notes ok.notes;
           hand = ok.hand;
           ties = ok.ties;
           stage = (st.0, refl, st.2, st.3, l.1, l.3, λ b. full_there s l b);

@@ -141,7 +141,7 @@ module _ (f : Form) (m : Memory) (views : List View) (id : ℕ) (v : View) (k : 
           rely = λ j u other there x. record {
             grows = grows;
             holds = λ h. h;
-            still = λ a. (refl, refl);
+            still = λ a. (refl, refl, refl);
             hand_place = λ a n p e s. (e, s);
             window_place = λ a n p e s. (e, s, refl);
             held = λ a b e. refl;
@@ -154,7 +154,7 @@ module _ (f : Form) (m : Memory) (views : List View) (id : ℕ) (v : View) (k : 
             of_callers = ok.of_callers;
             holds = ok.holds;
             joint = ok.joint;
-            notes = notes_alone g g' k.words.chain grows id (IsWhole v) (λ a. (refl, refl)) v.notes ok.notes;
+            notes = notes_alone g g' k.words.chain grows id (IsWhole v) (λ a. (refl, refl)) mine refl v.notes ok.notes;
             hand = ok.hand;
             ties = ok.ties;
             stage = ob;
@@ -343,7 +343,7 @@ module _ (f : Form) (m : Memory) (views : List View) (id : ℕ) (v : View) (k : 
           rely = λ j u other there x. record {
             grows = end_grows;
             holds = λ h. h;
-            still = λ a. (refl, refl);
+            still = λ a. (refl, refl, refl);
             hand_place = λ a n p e s. (e, s);
             window_place = λ a n p e s. (e, s, refl);
             held = λ a b e. refl;
@@ -356,7 +356,7 @@ module _ (f : Form) (m : Memory) (views : List View) (id : ℕ) (v : View) (k : 
             of_callers = ok.of_callers;
             holds = ok.holds;
             joint = ok.joint;
-            notes = notes_stay g e' k.words.chain end_grows id (IsWhole v) (λ a. (refl, refl)) k.words.homes (λ e. e) (λ e. record { now = refl; last = refl; low = refl; prep = refl; home = λ q. refl; untold = λ q o. le_refl _ }) v.notes ok.notes;
+            notes = notes_stay g e' k.words.chain end_grows id (IsWhole v) (λ a. (refl, refl)) k.words.homes (λ e. e) (λ e. record { now = refl; last = refl; low = refl; prep = refl; home = λ q. refl; untold = λ q o. le_refl _ }) (λ a. refl) v.notes ok.notes;
             hand = ok.hand;
             ties = ok.ties;
             stage = stage_stays g e' k.words.chain end_grows id active v.caller v.stage (λ e. same) (λ e. e) ok.stage;

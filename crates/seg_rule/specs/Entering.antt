@@ -1,16 +1,17 @@
 -- The entries that a load makes, where the value that it reads decides them.
-use Rattle.std.specs.Prelude.{◌≡◌, ℕ, ◌-◌, Bool, [], ◌∷◌, if◌then◌else◌, Some}
+use Rattle.std.specs.Prelude.{◌≡◌, ℕ, ◌+◌, ◌-◌, Bool, [], ◌∷◌, if◌then◌else◌, Some}
 use Rattle.ho_model.specs.declared.marks.CallMark.TheVariants.{Enq, Deq, Peek, Count}
 use Rattle.ho_model.specs.declared.marks.ReplyMark.TheVariants as reply
 use Rattle.ho_model.specs.Entries.{entry}
 use Rattle.seg_rule.specs.declared.view.View.{View}
 use Rattle.seg_rule.specs.declared.view.OpenTail.{OpenTail}
 use Rattle.seg_rule.specs.declared.view.Stage.TheVariants.{Closed}
+use Rattle.seg_rule.specs.Tells.{room_in}
 use Rattle.seg_rule.specs.Steps.{Enters, MayCount, front_of}
 
 -- the enqueue of the item y finds as many items as there is room for, with the tail at t
 abbrev pub EntersFull : View → ℕ → ℕ → View → Type 0
-EntersFull v y t w = Enters v (entry v.caller (Enq (y ∷ [])) reply.Full) (λ counts. counts.enqueued ≡ t) v.hand w
+EntersFull v y t w = Enters v (entry v.caller (Enq (y ∷ [])) reply.Full) (λ counts. (counts.enqueued ≡ t) × (counts.taken + room_in v.object ≡ t)) v.hand w
 
 -- a dequeue or a peek finds no item, with head and tail at h
 abbrev pub EntersEmpty : View → ℕ → Bool → View → Type 0

@@ -48,9 +48,9 @@ has_closed _ = false
 
 -- Notes on the tail.
 
--- an open tail
-abbrev pub tail_note : ℕ → ℕ → Option OpenTail
-tail_note p x = cond (eqb (x % 2) 0) (Some (record { place = p; position = x / 2; length = None; number = None; fits = false; full = false })) None
+-- an open tail; a closed one leaves the one that was noted
+abbrev pub tail_note : ℕ → ℕ → Option OpenTail → Option OpenTail
+tail_note p x old = cond (eqb (x % 2) 0) (Some (record { place = p; position = x / 2; length = None; number = None; fits = false; full = false })) old
 
 -- the length of the place of the tail noted
 abbrev pub length_note : ℕ → ℕ → Option OpenTail → Option OpenTail
@@ -146,7 +146,7 @@ noted st Head x o = record o { head = Some x }
 noted st Turn x o = o
 noted st Current x o = record o { scan = current_scan x o.head o.scan }
 noted st First x o = record o { scan = first_scan x o.head o.scan }
-noted st (Tail p) x o = record o { tail = tail_note p x; scan = tail_scan p x o.head o.scan }
+noted st (Tail p) x o = record o { tail = tail_note p x o.tail; scan = tail_scan p x o.head o.scan }
 noted st (Start p) x o = record o { scan = record o.scan { candidate = start_note p x o.scan.candidate } }
 noted st (Length p) x o = record o { tail = length_note p x o.tail; scan = record o.scan { length = Some (p, x) } }
 noted st (Observers p) x o = o
@@ -216,10 +216,10 @@ abbrev pub head_obstacles : ℕ → Option ℕ → List Obstacle
 head_obstacles x None = []
 head_obstacles x (Some h) = met_if (ltb h x) (HeadMoved h x)
 
--- two open tails of one place
-abbrev pub open_obstacles : ℕ → ℕ → Option OpenTail → List Obstacle
-open_obstacles p t None = []
-open_obstacles p t (Some o) = met_if (eqb o.place p && ltb o.position t) (TailMoved o.position t)
+-- two open tails that were read, the second above the first
+abbrev pub open_obstacles : ℕ → Option OpenTail → List Obstacle
+open_obstacles t None = []
+open_obstacles t (Some o) = met_if (ltb o.position t) (TailMoved o.position t)
 
 abbrev pub chain_obstacles : Bool → ℕ → ℕ → Option ℕ → Option ℕ → List Obstacle
 chain_obstacles closed p e current None = []
@@ -264,15 +264,19 @@ observers_obstacles closed p x (Some c) = met_if (closed && (eqb c.place p && no
 abbrev pub obstacles : Stage → QueueWord → ℕ → Notes → List Obstacle
 obstacles st Head x o = head_obstacles x o.head
 obstacles st Current x o = met_if (has_closed st) (IsCurrent x)
-obstacles st (Tail p) x o = cond (eqb (x % 2) 0) (open_obstacles p (x / 2) o.tail) (closed_obstacles (has_closed st) p (x / 2) o.scan)
+obstacles st (Tail p) x o = cond (eqb (x % 2) 0) (open_obstacles (x / 2) o.tail) (closed_obstacles (has_closed st) p (x / 2) o.scan)
 obstacles st (Observers p) x o = observers_obstacles (has_closed st) p x o.scan.candidate
 obstacles st (Done p) x o = done_obstacles (has_closed st) p x o.scan.past o.scan.candidate
 obstacles st (Number p i) x o = not_free_obstacles p i x o.scan o.tail ++ (not_published_obstacles p i x o.head o.scan ++ unpublished_obstacles (has_turn st) p i x o.head o.scan)
 obstacles st _ x o = []
 
 -- First store: the next place p is first. Where it is the current one, it is past the head noted.
+abbrev pub end_noted : Option Candidate → Option ℕ
+end_noted None = None
+end_noted (Some c) = Some c.end
+
 abbrev pub moved_scan : ℕ → Option ℕ → Scan → Scan
-moved_scan p h o = record { first = Some p; current = o.current; length = None; next = None; past = head_if (is_read o.current p) h None; inside = None; candidate = None }
+moved_scan p h o = record { first = Some p; current = o.current; length = None; next = None; past = head_if (is_read o.current p) h None; inside = None; moved = end_noted o.candidate; candidate = None }
 
 abbrev pub first_moved : View → ℕ → View
 first_moved v p = record v { notes = record v.notes { scan = moved_scan p v.notes.head v.notes.scan } }

@@ -13,13 +13,13 @@ use Rattle.seg_rule.specs.Entering.{EntersFull, EntersEmpty, EntersPeek, EntersC
 use Rattle.seg_rule.specs.Plays.{Reads, Decided}
 
 abbrev pub first_here : Here
-first_here = record { position = 0; place = 0; slot = 0; value = 0; length = 0; closed_place = 0; closed_at = 0; paid = false; turn = false }
+first_here = record { position = 0; place = 0; slot = 0; tail_slot = 0; value = 0; length = 0; closed_place = 0; closed_at = 0; first_slot = 0; paid = false; turn = false }
 
 abbrev pub here_after : QueueWord → ℕ → Here → Here
 here_after Current x h = record h { paid = h.turn && h.paid }
 here_after First x h = record h { paid = h.turn && h.paid }
 here_after (Length p) x h = record h { length = x }
-here_after (Number p i) x h = record h { place = p; slot = i }
+here_after (Number p i) x h = record h { place = p; slot = i; tail_slot = i }
 here_after _ x h = h
 
 -- no length was read for a take yet

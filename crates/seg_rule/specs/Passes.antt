@@ -1,5 +1,5 @@
 -- What contracts see of the pass of a queue's table, and how its fields mirror that.
-use Rattle.std.specs.Prelude.{◌≡◌, ℕ, ◌%◌, ◌^◌, ◌<◌, ◌≤◌, true, [], None, IfSome}
+use Rattle.std.specs.Prelude.{◌≡◌, ℕ, ◌%◌, ◌^◌, ◌<◌, ◌≤◌, true, [], Some, None, IfSome}
 use Rattle.atomic_table.specs.Seated.{TableId}
 use Rattle.atomic_table.specs.Table.{Me}
 use Rattle.passes.specs.Numbers.{NumbersView}
@@ -21,7 +21,7 @@ use Rattle.seg_layout.specs.Lengths.{places_of, longest_of}
 use Rattle.seg_rule.specs.Loads.{has_turn}
 use Rattle.passes.specs.Numbers.{IsSpare}
 use Rattle.seg_rule.specs.Plays.{TellsJoin}
-use Rattle.seg_rule.specs.Steps.{without, alone, joined, MayReserve, Reserves, MayTake, Takes}
+use Rattle.seg_rule.specs.Steps.{without, alone, joined, MayReserve, Reserves, MayTake, Takes, front_of}
 use Rattle.seg_rule.specs.Tells.{place_count, slot_count}
 
 -- the pass is of this table, and knows this
@@ -79,14 +79,14 @@ HandIs (Taking p q i leave) h = (p ≡ h.position) × (q ≡ h.place) × (i ≡ 
 abbrev pub StageIs : Stage → Here → Type 0
 StageIs (Closed q t full) h = (q ≡ h.closed_place) × (t ≡ h.closed_at)
 StageIs (Found q t p) h = (q ≡ h.closed_place) × (t ≡ h.closed_at)
-StageIs (Preparing d q t n w) h = t ≡ h.closed_at
+StageIs (Preparing d q t n w) h = (t ≡ h.closed_at) × (t % n ≡ h.first_slot)
 StageIs (Observing q t b n p) h = (q ≡ h.closed_place) × (t ≡ h.closed_at)
 StageIs _ h = Unit {0}
 
--- the place and slot of the last number that was read; no position comes near its limit
+-- the slot that is free for the tail, and the place and slot of the last number that was read; no position comes near its limit
 pub record NotesAre (o : Notes) (h : Here) : Type 0 where
   pub head : IfSome o.head (λ y. y < 2 ^ 62)
-  pub tail : IfSome o.tail (λ t. (t.position < 2 ^ 62) × (t.fits ≡ true → (t.place ≡ h.place) × IfSome t.length (λ n. t.position % n ≡ h.slot)))
+  pub tail : IfSome o.tail (λ t. (t.position < 2 ^ 62) × (t.fits ≡ true → IfSome t.length (λ n. t.position % n ≡ h.tail_slot)))
   pub front : IfSome o.front (λ y. (y.place ≡ h.place) × (y.slot ≡ h.slot) × (y.position < 2 ^ 62))
 
 pub record IsHere (v : View) (h : Here) : Type 0 where
@@ -94,6 +94,8 @@ pub record IsHere (v : View) (h : Here) : Type 0 where
   pub turn : has_turn v.stage ≡ h.turn
   pub place : h.place < place_count v
   pub slot : h.slot < slot_count v
+  pub tail_slot : h.tail_slot < slot_count v
+  pub first_slot : h.first_slot < slot_count v
   pub closed_place : h.closed_place < place_count v
   pub position : h.position < 2 ^ 62
   pub closed_at : h.closed_at < 2 ^ 62
@@ -137,7 +139,7 @@ abbrev pub MayTakeAt : View → ℕ → ℕ → Type 0
 MayTakeAt v h y = (q i : ℕ) × MayTake v h q i y
 
 abbrev pub TakesAt : View → ℕ → ℕ → View → Type 0
-TakesAt v h y w = (q i : ℕ) × Takes v h q i y w
+TakesAt v h y w = (q i : ℕ) × (v.notes.front ≡ Some (front_of h q i y)) × Takes v h q i y w
 
 -- Which step the hand waits for.
 

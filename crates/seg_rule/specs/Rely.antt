@@ -76,8 +76,8 @@ same_chain g g' s = record { now = s.now; last = s.last; low = s.low; prep = s.p
 pub record Rely (f : Form) (j : ℕ) (v : View) (g g' : Ghosts) : Type 0 where
   pub grows : Grows g g'
   pub holds : Holder f.callers g.log g.made g.owner j v.held v.made v.seen → Holder f.callers g'.log g'.made g'.owner j v.held v.made v.seen
-  -- a pass without other callers sees the head and the tail stand still
-  pub still : IsWhole v → (g'.put ≡ g.put) × (g'.taken ≡ g.taken)
+  -- a pass without other callers sees the head, the tail and the chain's end stand still
+  pub still : IsWhole v → (g'.put ≡ g.put) × (g'.taken ≡ g.taken) × (g'.last ≡ g.last)
   -- the place of what it has in hand, and the places of its window, show the same segment
   pub hand_place : (q k : ℕ) → HandPlace v.hand q → g.home q ≡ suc k → g.prep ≢ suc q → (g'.home q ≡ suc k) × (g'.prep ≢ suc q)
   pub window_place : (q k : ℕ) → in_range k v.window ≡ true → g.home q ≡ suc k → g.prep ≢ suc q → (g'.home q ≡ suc k) × (g'.prep ≢ suc q) × (g'.bar k ≡ g.bar k)

@@ -294,12 +294,15 @@ pub record ScanSeen (g : Ghosts) (o : Scan) : Type 0 where
   pub next : IfSome o.next (NextAt g)
   pub past : IfSome o.past (IsPast g)
   pub inside : IfSome o.inside (λ h. h < end_of g.segs g.last g.put g.low)
+  pub moved : IfSome o.moved (λ e. e ≤ (g.segs g.low).start)
   pub candidate : IfSome o.candidate (CandidateSeen g)
 
 pub record NotesOk (g : Ghosts) (j : ℕ) (whole : Type 0) (o : Notes) : Type 0 where
   pub head : HeadNote g whole o.head
   pub gone : IfSome o.gone (λ h. h < g.taken)
   pub tail : TailFact g whole o.tail
+  -- no segment was opened since, where nobody else can open one
+  pub newest : whole ⊎ (g.turn ≡ suc j) → IfSome o.tail (λ t. (g.segs g.last).place ≡ t.place)
   pub front : FrontFact g o.front
   pub scan : g.turn ≡ suc j → ScanSeen g o.scan
 

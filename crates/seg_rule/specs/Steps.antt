@@ -25,10 +25,10 @@ use Rattle.seg_rule.specs.declared.view.Leave.{Leave}
 use Rattle.seg_rule.specs.declared.view.Hand.{Hand}
 use Rattle.seg_rule.specs.declared.view.Hand.TheVariants.{Nothing, Reserved, Stored, Taking}
 use Rattle.seg_rule.specs.declared.view.Stage.{Stage}
-use Rattle.seg_rule.specs.declared.view.Stage.TheVariants.{Away, Plain, Closed, Found, Preparing, Opened, Linked}
+use Rattle.seg_rule.specs.declared.view.Stage.TheVariants.{Away, Plain, Closed, Found, Preparing, Opened, Linked, Observing}
 
 abbrev pub blank_scan : Scan
-blank_scan = record { first = None; current = None; length = None; next = None; past = None; inside = None; candidate = None }
+blank_scan = record { first = None; current = None; length = None; next = None; past = None; inside = None; moved = None; candidate = None }
 
 abbrev pub blank : Notes
 blank = record { head = None; gone = None; tail = None; front = None; scan = blank_scan }
@@ -93,10 +93,18 @@ closed_current q (Some p) = cond (eqb p q) (ClosedCurrent q ∷ []) []
 abbrev pub tail_moved : ℕ → ℕ → ℕ → Option ℕ → List Obstacle
 tail_moved q t x current = cond (eqb (x % 2) 0) (TailMoved t (x / 2) ∷ []) (closed_current q current)
 
--- An exchange of the tail from an open one at t found another word. An open one is above, and there is another caller.
+-- the pass has the tail closed
+abbrev pub keeps_closed : Stage → Bool
+keeps_closed (Closed q t full) = true
+keeps_closed (Found q t p) = true
+keeps_closed (Preparing d q t n w) = true
+keeps_closed (Observing q t b n p) = true
+keeps_closed _ = false
+
+-- An exchange of the tail from an open one at t found another word. An open one is above, and there is another caller. A closed one is closed by another caller, while this one has no turn, unless this one has it closed.
 pub record MissesTail (v : View) (q t x : ℕ) (w : View) : Type 0 where
   pub above : (u : ℕ) → x ≡ 2 * u → (t < u) × (¬ IsWhole v)
-  pub closed : (u : ℕ) → x ≡ 2 * u + 1 → t ≤ u
+  pub closed : (u : ℕ) → x ≡ 2 * u + 1 → (t ≤ u) × (keeps_closed v.stage ≡ false → (v.stage ≡ Away) × (¬ IsWhole v))
   pub left : w ≡ record v { met = v.met ++ tail_moved q t x v.notes.scan.current }
 
 -- head take, of the position h with the item y, in the slot i of the place q
@@ -167,7 +175,6 @@ pub record IsAtRest (v : View) : Type 0 where
   pub hand : v.hand ≡ Nothing
   pub stage : v.stage ≡ Away
   pub window : v.window ≡ None
-  pub paid : v.paid ≡ false
   pub joint : v.joint ≡ None
 
 -- a split: the number c is given away, and a seat with c alone has seen as much
@@ -235,8 +242,20 @@ abbrev pub opened_stage : Stage → Stage
 opened_stage (Preparing d q t n w) = Opened d q t
 opened_stage s = s
 
+-- the slot of the tail of the new segment is free for it
+abbrev pub opened_tail : Stage → Option OpenTail → Option OpenTail
+opened_tail (Preparing d q t n w) old = Some (fit_tail q t n None false)
+opened_tail s old = old
+
+abbrev pub opened_by : Stage → View → View
+opened_by s v = record v { notes = record (no_scan v.notes) { tail = opened_tail s v.notes.tail }; stage = opened_stage s }
+
+-- tail open: what was read of the chain is not known any more, and the new tail is
+abbrev pub opened : View → View
+opened v = opened_by v.stage v
+
 abbrev pub opens : Step ℕ → Me ℕ View → ℕ → Me ℕ View → Type 0
-opens st m r w = w ≡ (on_stage m.0 (opened_stage m.0.stage), m.1)
+opens st m r w = w ≡ (opened m.0, m.1)
 
 -- The stores of the holder of the turn: its stage moves on.
 

@@ -1,5 +1,5 @@
 -- What steps tell beside the view that they leave.
-use Rattle.std.specs.Prelude.{◌+◌, ◌≡◌, ◌≢◌, ℕ, ◌*◌, ◌^◌, ◌<◌, ◌≤◌, ◌&&◌, Bool, true, false, List, Some, None, slice_get, IfSome}
+use Rattle.std.specs.Prelude.{◌+◌, ◌≡◌, ◌≢◌, ℕ, ◌*◌, ◌%◌, ◌^◌, ◌<◌, ◌≤◌, ◌⊎◌, ◌&&◌, Bool, true, false, List, Some, None, slice_get, IfSome}
 use Rattle.ho_base.specs.Marks.{number_priority}
 use Rattle.ho_model.specs.declared.marks.EntryMark.{EntryMark}
 use Rattle.ho_model.specs.Enqueues.{putters_of}
@@ -7,15 +7,16 @@ use Rattle.ho_model.specs.Tallies.{tally_of}
 use Rattle.passes.specs.Numbers.{HasNumber}
 use Rattle.passes.specs.Seen.{SeesOthers, IsLawful}
 use Rattle.seg_rule.specs.declared.word.QueueWord.{QueueWord}
-use Rattle.seg_rule.specs.declared.word.QueueWord.TheVariants.{Head, Current, First, Tail, Length, Next, Number}
+use Rattle.seg_rule.specs.declared.word.QueueWord.TheVariants.{Head, Current, First, Tail, Length, Next, Segment, Number}
 use Rattle.seg_rule.specs.declared.view.View.{View}
+use Rattle.seg_rule.specs.declared.view.Stage.TheVariants.{Plain}
 use Rattle.seg_rule.specs.declared.view.Hand.{Hand}
-use Rattle.seg_rule.specs.declared.view.Hand.TheVariants.{Nothing}
+use Rattle.seg_rule.specs.declared.view.Hand.TheVariants.{Nothing, Reserved, Stored}
 use Rattle.ho_model.specs.declared.objects.Object.{Object}
 use Rattle.ho_model.specs.declared.objects.Object.TheVariants.{Queue}
 use Rattle.seg_layout.specs.Lengths.{IsSegmentLength, longest_of, places_of}
 use Rattle.seg_rule.specs.Rule.{IsWhole}
-use Rattle.seg_rule.specs.Loads.{has_turn, is_front_slot, is_free_by}
+use Rattle.seg_rule.specs.Loads.{has_turn, has_closed, is_front_slot, is_free_by}
 
 -- another word than the one noted is above it, and there is another caller
 abbrev pub IsAbove : View → ℕ → ℕ → Type 0
@@ -44,14 +45,35 @@ place_count v = places_in v.object v.callers
 abbrev pub slot_count : View → ℕ
 slot_count v = slots_in v.object
 
--- Beside what was read before: a noted tail is at most the room above the head, and an open tail at a noted head or above; the head stands above one that it stands above by now, no word of head or tail comes near its limit, places are those of the table, and lengths fit.
+-- the place p is not the current one that was read, or the pass has the turn and has not closed the tail
+abbrev pub IsBeside : View → ℕ → Type 0
+IsBeside v p = (v.stage ≡ Plain) ⊎ ((c : ℕ) × (v.notes.scan.current ≡ Some c) × (c ≢ p))
+
+-- What a load of the tail of the place p tells that reads x: an open tail is at a noted one or above, and at a noted head or above. To a pass that has the turn, and has not closed the tail, the tail of the current place is open and that of another place is closed; once it has closed it, each tail is closed. The closed tail of the first place is above the ends that first was moved past under this turn.
+pub record TellsTail (p x : ℕ) (v : View) : Type 0 where
+  pub above : IfSome v.notes.tail (λ o. (t : ℕ) → x ≡ 2 * t → IsAbove v t o.position)
+  pub small : x < 2 ^ 60
+  pub head : IfSome v.notes.head (λ h. (t : ℕ) → x ≡ 2 * t → h ≤ t)
+  pub current : v.stage ≡ Plain → v.notes.scan.current ≡ Some p → x % 2 ≡ 0
+  pub other : (c : ℕ) → v.stage ≡ Plain → v.notes.scan.current ≡ Some c → c ≢ p → x % 2 ≡ 1
+  pub closed : has_closed v.stage ≡ true → x % 2 ≡ 1
+  pub beyond : (e : ℕ) → has_turn v.stage ≡ true → v.notes.scan.first ≡ Some p → IsBeside v p → x ≡ 2 * e + 1 → IfSome v.notes.scan.moved (λ m. m < e)
+
+-- a position that was enqueued in the place q, and is in hand, is this one or above
+abbrev pub IsFrom : ℕ → ℕ → Hand → Type 0
+IsFrom q least (Reserved p r i y) = r ≡ q → least ≤ p
+IsFrom q least (Stored p r i y) = r ≡ q → least ≤ p
+IsFrom q least _ = Unit {0}
+
+-- Beside what was read before: a noted tail is at most the room above the head; the head stands above one that it stands above by now, no word of head or tail comes near its limit, places are those of the table, and lengths fit. Each segment that was opened before that of a position in hand has the first length at least.
 abbrev pub Told : QueueWord → ℕ → View → Type 0
 Told Head x v = IfSome v.notes.head (IsAbove v x) × IfSome v.notes.gone (λ h. h < x) × (x < 2 ^ 60) × IfSome v.notes.tail (λ o. o.position ≤ x + room_in v.object)
 Told Current x v = x < place_count v
 Told First x v = x < place_count v
-Told (Tail p) x v = IfSome v.notes.tail (λ o. o.place ≡ p → (t : ℕ) → x ≡ 2 * t → IsAbove v t o.position) × (x < 2 ^ 60) × IfSome v.notes.head (λ h. (t : ℕ) → x ≡ 2 * t → h ≤ t)
+Told (Tail p) x v = TellsTail p x v
 Told (Length p) x v = IsSegmentLength (first_len_in v.object) x × (2 ≤ x) × (x ≤ slot_count v)
 Told (Next p) x v = x < place_count v
+Told (Segment p) x v = IsFrom p (x * first_len_in v.object) v.hand
 Told _ x v = Unit {0}
 
 -- a pass with nothing in hand sees that the slot of the head, in the place where it lies, is free still

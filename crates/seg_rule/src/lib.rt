@@ -30,13 +30,10 @@
 //!
 //! What no clause says yet: what a load of a slot in the window tells of the snapshot's items
 //! (`proofs/Snapshots.antt` has it of the rule); that notes do not outlive a call which begins with
-//! another word than the first or the current place, or with the turn; that a load of a tail finds it
-//! open under the turn where its place was read as current; that a lost exchange which found a closed
-//! tail was made without the turn, and by a pass that does not hold all numbers; what a load of the
-//! turn, of a start, of a count of takes or of a segment word read, where the pass notes nothing of
-//! it; that the next length was chosen by whether the place is observed; and that the number of a
-//! segment times the first length is at most its positions (`numbers_high` of `proofs/Chains.antt`
-//! has that for starts). `paid` stays true from a turn to the entry or to the next call.
+//! another word than the first or the current place, or with the turn; what a load of the turn, of a
+//! start or of a count of takes read, where the pass notes nothing of it; and that the next length
+//! was chosen by whether the place is observed. `paid` stays true from a turn to the entry or to the
+//! next call.
 //!
 //! It stands on `atomic_table`, where each step is sequentially consistent, on `seg_layout` for the
 //! layout, on `passes` for the numbers of passes and on `ho_model`, which says what a queue is.

@@ -19,11 +19,15 @@ pub(crate) struct Here {
     pub position: u64,
     pub place: u32,
     pub slot: u32,
+    /// The slot that is free for the open tail noted.
+    pub tail_slot: u32,
     pub value: u64,
     /// The last length that was read.
     pub length: u64,
     pub closed_place: u32,
     pub closed_at: u64,
+    /// The slot of that position in the segment that is prepared.
+    pub first_slot: u32,
     /// This call was counted at its turn, and has made no entry yet.
     pub paid: bool,
     /// It has the turn.
@@ -39,10 +43,12 @@ impl Here {
             position: 0,
             place: 0,
             slot: 0,
+            tail_slot: 0,
             value: 0,
             length: 0,
             closed_place: 0,
             closed_at: 0,
+            first_slot: 0,
             paid: false,
             turn: false,
         }
@@ -60,6 +66,7 @@ impl Here {
             QueueWord::Number(place, slot) => {
                 here.place = place;
                 here.slot = slot;
+                here.tail_slot = slot;
             }
             _ => {}
         }

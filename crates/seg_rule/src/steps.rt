@@ -4,7 +4,7 @@ ghost use Rattle.seg_rule.specs.declared.word.QueueWord.TheVariants.{Head, Tail}
 ghost use Rattle.seg_rule.specs.declared.view.OpenTail.{OpenTail};
 ghost use Rattle.seg_rule.specs.declared.view.Hand.TheVariants.{Nothing, Reserved, Stored, Taking};
 ghost use Rattle.seg_rule.specs.declared.view.Stage.TheVariants.{Away, Plain, Closed, Found, Preparing, Opened, Linked, Observing};
-ghost use Rattle.seg_rule.specs.Steps.{in_hand, on_stage, stored_hand, opened_stage, begun_stage, more_stage, linked_stage, on_leave, released, MayReserve, Reserves, MissesTail, MayTake, Takes, MissesHead, MayTurn, turned, MissesTurn, MayBegin, MayNumber, MayShow, MayClose, closed_at, IsAtRest, without, alone, joined};
+ghost use Rattle.seg_rule.specs.Steps.{in_hand, on_stage, stored_hand, opened, begun_stage, more_stage, linked_stage, on_leave, released, MayReserve, Reserves, MissesTail, MayTake, Takes, MissesHead, MayTurn, turned, MissesTurn, MayBegin, MayNumber, MayShow, MayClose, closed_at, IsAtRest, without, alone, joined};
 ghost use Rattle.passes.specs.Numbers.{IsSpare};
 ghost use Rattle.passes.specs.Holders.{Meet};
 ghost use Rattle.passes.specs.Seen.{IsLawful};
@@ -165,7 +165,7 @@ pub(crate) fn tail_open(board: &Board, slots: u32, seat: &mut Seat, place: u32, 
     requires word { (place < board.now.key.places) × (position < 2 ^ 62) }
     requires stage { (d n : ℕ) × (seat.old.me.0.stage ≡ Preparing d place position n (4 + n)) }
     ensures same { IsSame seat.old seat.new }
-    ensures opened { seat.new.me ≡ (on_stage seat.old.me.0 (opened_stage seat.old.me.0.stage), seat.old.me.1) }
+    ensures opened { seat.new.me ≡ (opened seat.old.me.0, seat.old.me.1) }
 {
     let word = index(slots, &QueueWord::Tail(place));
     board.store::<Open>(seat, word, 2 * position);

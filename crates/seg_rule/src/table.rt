@@ -3,7 +3,8 @@ ghost use Rattle.std.specs.Prelude.{◌≡◌, ◌≢◌, ◌<◌, ◌≤◌, �
 ghost use Rattle.seg_rule.specs.declared.view.Hand.TheVariants.{Nothing};
 ghost use Rattle.seg_rule.specs.declared.view.Stage.TheVariants.{Away, Plain, Preparing, Opened, Linked};
 ghost use Rattle.passes.specs.Numbers.{held_count};
-ghost use Rattle.seg_rule.specs.Steps.{in_hand, stored_hand, on_leave, released, on_stage, opened_stage, begun_stage, more_stage, linked_stage, MayBegin, MayNumber, MayShow, IsAtRest, MissesTail, MissesHead, MayTurn, turned, MissesTurn, MayClose, closed_at, first_view};
+ghost use Rattle.seg_rule.specs.Steps.{in_hand, stored_hand, on_leave, released, on_stage, opened, begun_stage, more_stage, linked_stage, MayBegin, MayNumber, MayShow, IsAtRest, MissesTail, MissesHead, MayTurn, turned, MissesTurn, MayClose, closed_at, first_view};
+ghost use Rattle.seg_rule.specs.Rule.{IsShape};
 ghost use Rattle.seg_layout.specs.Lengths.{IsFirstLength, longest_of, places_of};
 ghost use Rattle.seg_rule.specs.Loads.{MayMove, first_moved};
 ghost use Rattle.seg_rule.specs.declared.word.QueueWord.TheVariants.{Head, Tail};
@@ -85,6 +86,14 @@ impl QueueTable {
             }
             Err(_) => Err(NoMemory),
         }
+    }
+
+    /// The parameters of the queue.
+    pub fn form(&self) -> Form
+        ensures value { result ≡ self.now.form }
+        ensures shape { IsShape self.now.form }
+    {
+        self.form
     }
 
     /// Stores the item of the position that was reserved into its slot.
@@ -179,14 +188,13 @@ impl QueueTable {
         );
     }
 
-    /// Opens the place that was prepared, with its tail at the end of the segment before.
+    /// Opens the place that was prepared, with its tail at the end of the segment before, whose slot is
+    /// free for it.
     pub fn tail_open(&self, pass: &mut QueuePass, place: u32, at: u64)
         requires of { IsOf self.now pass.old }
         requires place { place < self.now.form.places }
         requires stage { (d n : ℕ) × (pass.old.view.stage ≡ Preparing d place at n (4 + n)) }
-        ensures { pass.new ≡ record pass.old {
-          view = on_stage pass.old.view (opened_stage pass.old.view.stage);
-        } }
+        ensures { pass.new ≡ record pass.old { view = opened pass.old.view } }
     {
         steps::tail_open(
             &self.table.shared,
@@ -195,6 +203,7 @@ impl QueueTable {
             place,
             at,
         );
+        pass.here.tail_slot = pass.here.first_slot;
     }
 
     /// Makes the place current that was opened and linked.
@@ -234,7 +243,7 @@ impl QueueTable {
         ensures lost { IfErr result (λ found. (found ≢ 2 * at)
             × MissesTail pass.old.view place at found pass.new.view) }
     {
-        let slot = pass.here.slot;
+        let slot = pass.here.tail_slot;
         let found = steps::tail_reserve::<Brand>(
             &self.table.shared,
             self.form.slots,
@@ -249,6 +258,7 @@ impl QueueTable {
         }
         pass.here.position = at;
         pass.here.place = place;
+        pass.here.slot = slot;
         pass.here.value = value;
         count_entry(&mut pass.numbers, pass.here.paid);
         pass.here.paid = false;
@@ -478,6 +488,7 @@ impl QueueTable {
             place,
             length,
         );
+        pass.here.first_slot = (pass.here.closed_at % length) as u32;
     }
 
     fn put_start(&self, pass: &mut QueuePass, place: u32, start: u64)
@@ -636,10 +647,12 @@ impl QueueTable {
         let numbers = pass.numbers.split_off();
         let number = numbers.caller() as usize;
         let seat = steps::give::<Brand>(&self.table.shared, &mut pass.seat, number);
+        let mut here = pass.here;
+        here.paid = false;
         QueuePass {
             seat,
             numbers,
-            here: pass.here,
+            here,
         }
     }
 

@@ -89,6 +89,8 @@ pub struct Scan {
     pub past: Option<u64>,
     /// The first segment ends above this head.
     pub inside: Option<u64>,
+    /// The end of the last segment that first was moved past under this turn.
+    pub moved: Option<u64>,
     pub candidate: Option<Candidate>,
 }
 
@@ -121,7 +123,7 @@ pub struct Window {
 pub enum Obstacle {
     /// Two positions of the head, the second above the first.
     HeadMoved(u64, u64),
-    /// Two positions of an open tail in one place, the second above the first.
+    /// Two positions of an open tail, the second above the first.
     TailMoved(u64, u64),
     /// The number of the caller that has the turn.
     Turned(u64),
