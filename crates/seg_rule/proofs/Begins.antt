@@ -72,6 +72,7 @@ module _ (f : Form) (m : Memory) (views : List View) (id : ℕ) (v : View) (k : 
           ties = ok.ties;
           stage = ok.stage;
           window = window_fact_stays g g' w.chain grows w.homes v.window (λ a n p e s. (e, s, refl)) ok.window;
+          owned = ok.owned;
         };
         paid_by = let z : (g.paid - flag v.paid) + flag v.paid ≡ g.paid + 0 = omega arith in z;
         untold_by = λ a. refl;

@@ -35,7 +35,7 @@ module _ (f : Form) (memory' : Memory) (views : List View) (id : ℕ) (v : View)
 
   told_kept : Kept f memory' (set views id (record v { joint = None }))
   told_kept = own_kept f memory' views id v k at (record v { joint = None })
-      record { of_object = ok.of_object; of_callers = ok.of_callers; holds = ok.holds; joint = tt; notes = ok.notes; hand = ok.hand; ties = ok.ties; stage = ok.stage; window = ok.window }
+      record { of_object = ok.of_object; of_callers = ok.of_callers; holds = ok.holds; joint = tt; notes = ok.notes; hand = ok.hand; ties = ok.ties; stage = ok.stage; window = ok.window; owned = ok.owned }
       refl (λ q. refl) (λ n. refl) refl
 
 pub tells_at : (f : Form) (n i slots id : ℕ) (me : Me ℕ View) → f.slots ≡ n → i ≡ index_of n Head → Allows (Rule f) slots id me i (λ x. x) (tells (step slots i 0 0 none) me)

@@ -210,6 +210,7 @@ module _ (f : Form) (m : Memory) (views : List View) (id : ℕ) (v : View) (k : 
         ties = each_slot g.cells q i c (λ a b d. holder d.1 ≡ suc id → InHand (Taking g.taken q i Unread) a b) (λ s. (refl, refl, tt)) (λ a b x s. absurd (subst (λ (z : Hand). InHand z a b) idle (ok.ties a b s)));
         stage = stage_on v.stage ok.stage;
         window = window_fact_stays g g' k.words.chain grows k.words.homes v.window (λ a b p s t. (s, t, refl)) ok.window;
+        owned = ok.owned;
       }
 
       words : Words f (update m Head (suc g.taken)) g'

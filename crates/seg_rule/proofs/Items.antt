@@ -81,6 +81,7 @@ module _ (f : Form) (m : Memory) (views : List View) (id : ℕ) (v : View) (k : 
         ties = each_slot g.cells q i c (λ a b d. holder d.1 ≡ suc id → InHand w a b) mine (λ a b n e. others a b (ok.ties a b e) n);
         stage = ok.stage;
         window = window_fact_stays g g' k.words.chain cell_grows k.words.homes v.window (λ a n p e s. (e, s, refl)) ok.window;
+        owned = ok.owned;
       };
       paid_by = refl;
       untold_by = λ a. ap (λ (z : ℕ). g.untold a + z) (takes a);

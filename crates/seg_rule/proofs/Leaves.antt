@@ -117,6 +117,7 @@ module _ (f : Form) (m : Memory) (views : List View) (id : ℕ) (v : View) (k : 
             ties = λ a b e. let o = subst (λ (z : Hand). InHand z a b) is (ok.ties a b e) in (o.0, o.1, tt);
             stage = ok.stage;
             window = window_fact_stays g g' k.words.chain grows k.words.homes v.window (λ a b r e s. (e, s, not_watched id v at b r)) ok.window;
+            owned = ok.owned;
           };
           paid_by = refl;
           untold_by = λ a. ap (λ (z : ℕ). g.untold a + z) (ap (takes_at a) is);
@@ -174,6 +175,7 @@ module _ (f : Form) (m : Memory) (views : List View) (id : ℕ) (v : View) (k : 
         notes = ok.notes;
         stage = ok.stage;
         window = ok.window;
+        owned = ok.owned;
         hand = (h.0, h.1, h.2, (h.3.0, λ a e. (h.3.1 a e, sym now ∙ (k.words.places q a e s.1.1).1)));
         ties = λ a b e. let o = subst (λ (z : Hand). InHand z a b) is (ok.ties a b e) in (o.0, o.1, tt);
       }
@@ -277,6 +279,7 @@ module _ (f : Form) (m : Memory) (views : List View) (id : ℕ) (v : View) (k : 
           ties = λ a b e. let o = subst (λ (z : Hand). InHand z a b) is (ok.ties a b e) in none o.2;
           stage = stage_stays g g' k.words.chain grows id active v.caller v.stage (λ e. same) (λ e. e) ok.stage;
           window = window_fact_stays g g' k.words.chain grows k.words.homes v.window (λ a b r e s. (e, s, refl)) ok.window;
+          owned = ok.owned;
         };
         paid_by = refl;
         untold_by = λ a. ⊎_elim

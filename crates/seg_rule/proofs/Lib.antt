@@ -40,5 +40,6 @@ pub mod Mirrors
 pub mod Fills
 pub mod Firsts
 pub mod Finishing
+pub mod Watching
 pub mod Begins
 pub mod Worked

@@ -66,6 +66,7 @@ module _ (f : Form) (m : Memory) (views : List View) (id : ℕ) (v : View) (k : 
         ties = ok.ties;
         stage = stage;
         window = window_fact_stays g g' k.words.chain grows k.words.homes v.window (λ a n p e s. (e, s, refl)) ok.window;
+        owned = ok.owned;
       };
       paid_by = refl;
       untold_by = λ a. refl;
@@ -294,6 +295,7 @@ module _ (f : Form) (m : Memory) (views : List View) (id : ℕ) (v : View) (k : 
             ties = ok.ties;
             stage = stage_on v.stage idle ok.stage;
             window = window_fact_stays g f' k.words.chain first_grows k.words.homes v.window (λ a n p e s. (e, s, refl)) ok.window;
+            owned = ok.owned;
           };
           paid_by = refl;
           untold_by = λ a. refl;

@@ -24,7 +24,7 @@ use Rattle.seg_rule.specs.declared.view.Stage.TheVariants.{Away, Plain, Closed, 
 use Rattle.seg_rule.specs.Words.{Memory, IsWord}
 use Rattle.seg_rule.specs.Chain.{end_of}
 use Rattle.seg_rule.specs.Slots.{Cell}
-use Rattle.seg_rule.specs.Rule.{Ghosts, Shows, HandOk, IsShape, IsWhole, HeadNote, TailFact, tail_word, CandidateSeen, WindowOk, WindowFact, StageOk, ViewOk, Kept, in_range, flag}
+use Rattle.seg_rule.specs.Rule.{Ghosts, Shows, HandOk, IsShape, IsWhole, HeadNote, TailFact, tail_word, CandidateSeen, WindowOk, WindowFact, WindowOwned, StageOk, ViewOk, Kept, in_range, flag}
 use Rattle.seg_rule.specs.Steps.{in_hand, blank}
 use Rattle.seg_rule.specs.declared.view.OpenTail.{OpenTail}
 use Rattle.seg_rule.specs.Tells.{IsAbove, IsBeside, IsFrom, Told, IsInFlight, Sees, is_idle, sees_in_flight, places_in, slots_in, room_in, first_len_in, place_count, slot_count}
@@ -144,6 +144,7 @@ module _ (f : Form) (m : Memory) (views : List View) (id : ℕ) (v : View) (k : 
         ties = ok.ties;
         stage = ok.stage;
         window = record {
+          some = old.some;
           opened = old.opened;
           behind = old.behind;
           first = old.first;
@@ -151,6 +152,7 @@ module _ (f : Form) (m : Memory) (views : List View) (id : ℕ) (v : View) (k : 
           after = λ beyond. next_place w old (eqb-true w.first p e) beyond;
           there = old.there;
         };
+        owned = subst (WindowOwned (HasNumber v.held v.caller)) is ok.owned;
       }
       refl (λ q. refl) (λ n. ap (λ z. flag (in_range n z)) is) refl)
       (λ e. subst (λ w. Kept f m (set views id (record v { window = w }))) is (same_kept f m views id v at k))
@@ -353,6 +355,7 @@ module _ (f : Form) (m : Memory) (views : List View) (id : ℕ) (v : View) (k : 
       ties = own.ties;
       stage = own.stage;
       window = own.window;
+      owned = own.owned;
     };
     paid_by = refl;
     untold_by = λ a. refl;

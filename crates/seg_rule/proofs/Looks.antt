@@ -27,7 +27,7 @@ use Rattle.seg_rule.specs.Rely.{Grows, SameTurn}
 use Rattle.seg_rule.specs.Steps.{blank, count_made, MayCount}
 use Rattle.seg_rule.proofs.Chains.{rises}
 use Rattle.seg_rule.proofs.Slots.{tail_slot}
-use Rattle.seg_rule.proofs.Stays.{blank_ok, window_fact_stays}
+use Rattle.seg_rule.proofs.Stays.{blank_ok, window_fact_stays, owned_by}
 use Rattle.seg_rule.proofs.Frames.{kept_after}
 use Rattle.seg_rule.proofs.Sums.{total_part}
 use Rattle.seg_rule.proofs.Entries.{own_enters, others_entered, calls_entered}
@@ -113,7 +113,7 @@ module _ (f : Form) (m : Memory) (views : List View) (id : ℕ) (v : View) (k : 
 
   pub look_kept : (o : Notes) (met : List Obstacle) → NotesOk g id (IsWhole v) o → Kept f m (set views id (record v { notes = o; met = met }))
   look_kept o met notes = own_kept (record v { notes = o; met = met })
-      record { of_object = ok.of_object; of_callers = ok.of_callers; holds = ok.holds; joint = ok.joint; notes = notes; hand = ok.hand; ties = ok.ties; stage = ok.stage; window = ok.window }
+      record { of_object = ok.of_object; of_callers = ok.of_callers; holds = ok.holds; joint = ok.joint; notes = notes; hand = ok.hand; ties = ok.ties; stage = ok.stage; window = ok.window; owned = ok.owned }
       refl (λ q. refl) (λ n. refl) refl
 
   -- an entry that moves no count: full, empty, peek, count, and a snapshot, whose window has the range that was there
@@ -169,6 +169,7 @@ module _ (f : Form) (m : Memory) (views : List View) (id : ℕ) (v : View) (k : 
           ties = ok.ties;
           stage = at_stage;
           window = window_fact_stays g g' k.words.chain grows k.words.homes window (λ a n p s t. (s, t, refl)) fact;
+          owned = owned_by may.0 window;
         };
         paid_by = let y : (g.paid - flag v.paid) + flag v.paid ≡ g.paid + 0 = omega arith in y;
         untold_by = λ a. refl;

@@ -191,6 +191,7 @@ module _ (f : Form) (m : Memory) (views : List View) (id : ℕ) (v : View) (k : 
     ties = λ a b e. ok.ties a b (given_by id a b e);
     stage = (st.0, refl, refl, ap suc st.3, linked_now, ap (λ (s : Seg). s.place) new_seg ∙ ap (λ (s : Seg). s.place) st.5, ap (λ (s : Seg). s.start) new_seg ∙ ap (λ (s : Seg). s.start) st.5, ap (λ (s : Seg). s.place) (old_seg g.now (let o = k.words.links.order in let a = o.1 in let b = o.2 in omega arith)) ∙ (ap (λ (z : ℕ). (g.segs z).place) st.3 ∙ st.7));
     window = window_fact_stays g g' k.words.chain grows k.words.homes v.window (λ a o p s r. let z = place_stays a o s r in (z.0, z.1, refl)) ok.window;
+    owned = ok.owned;
   }
 
   -- nobody watches the new segment

@@ -164,6 +164,7 @@ module _ (f : Form) (m : Memory) (views : List View) (id : ℕ) (v : View) (k : 
         ties = ok.ties;
         stage = (st.0, st.1, refl, st.3, st.4, refl, refl, st.5);
         window = window_fact_stays g g' k.words.chain grows k.words.homes v.window (window_apart id v at) ok.window;
+        owned = ok.owned;
       };
       paid_by = refl;
       untold_by = λ a. refl;
@@ -207,6 +208,7 @@ module _ (f : Form) (m : Memory) (views : List View) (id : ℕ) (v : View) (k : 
         ties = ok.ties;
         stage = (at_prep.0, at_prep.1, at_prep.2, at_prep.3, at_prep.4, at_prep.5, refl, at_prep.7);
         window = window_fact_stays g more k.words.chain more_grows k.words.homes v.window (λ a n p e s. (e, s, refl)) ok.window;
+        owned = ok.owned;
       };
       paid_by = refl;
       untold_by = λ a. refl;

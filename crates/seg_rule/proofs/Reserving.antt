@@ -156,6 +156,7 @@ module _ (f : Form) (m : Memory) (views : List View) (id : ℕ) (v : View) (k : 
         ties = each_slot g.cells q i c (λ a b d. holder d.1 ≡ suc id → InHand (Reserved g.put q i x) a b) (λ s. (refl, refl)) (λ a b y s. absurd (subst (λ (z : Hand). InHand z a b) idle (ok.ties a b s)));
         stage = stage_on v.stage ok.stage;
         window = window_fact_stays g g' k.words.chain grows k.words.homes v.window (λ a b p s t. (s, t, refl)) ok.window;
+        owned = ok.owned;
       }
         where
           last_free : g.prep ≡ suc q → ⊥

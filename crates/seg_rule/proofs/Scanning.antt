@@ -76,6 +76,7 @@ module _ (f : Form) (m : Memory) (views : List View) (id : ℕ) (v : View) (k : 
         hand = ok.hand;
         ties = ok.ties;
         window = ok.window;
+        owned = ok.owned;
         stage = (st.0, st.1, st.2, st.3, st.4, st.5, st.6 refl, ((λ e. other (e ∙ st.5)), out, (λ n h. sym (ap (watched g.watch) h) ∙ (sym (k.words.observers p near) ∙ now)), spent));
       }
       refl (λ q. refl) (λ n. refl) refl

@@ -16,7 +16,7 @@ use Rattle.seg_rule.specs.declared.view.Joint.{Joint}
 use Rattle.seg_rule.specs.declared.view.Obstacle.{Obstacle}
 use Rattle.seg_rule.specs.Words.{Memory}
 use Rattle.seg_rule.specs.declared.form.Form.{Form}
-use Rattle.seg_rule.specs.Rule.{Ghosts, IsWhole, JointFact, HandOk, StageOk, WindowFact, ViewOk, Words, Kept, total, paid_of, takes_in, watches}
+use Rattle.seg_rule.specs.Rule.{Ghosts, IsWhole, JointFact, HandOk, StageOk, WindowFact, WindowOwned, ViewOk, Words, Kept, total, paid_of, takes_in, watches}
 use Rattle.seg_rule.specs.Rely.{Rely}
 use Rattle.seg_rule.specs.Steps.{blank, IsAtRest, without, alone, joined, gone}
 use Rattle.seg_rule.proofs.Stays.{blank_ok, view_stays}
@@ -75,6 +75,7 @@ module _ (f : Form) (g : Ghosts) (owner' : ℕ → ℕ) where
     ties = x.ties;
     stage = subst (StageOk moved j (HasNumber held v.caller) v.caller) (sym r.stage) (subst (StageOk g j (HasNumber v.held v.caller) v.caller) r.stage x.stage);
     window = subst (WindowFact moved) (sym r.window) tt;
+    owned = subst (WindowOwned (HasNumber held v.caller)) (sym r.window) tt;
   }
 
 module _ (f : Form) (m : Memory) (views : List View) (id : ℕ) (v : View) (k : Kept f m views) (at : get_elem? views id ≡ some v) (rest : IsAtRest v) where
@@ -116,6 +117,7 @@ module _ (f : Form) (m : Memory) (views : List View) (id : ℕ) (v : View) (k : 
       ties = λ a b e. let s = k.seats.seated a b fresh e in unseated s.0 s.1;
       stage = λ e. let s = k.seats.turned fresh e in unseated s.0 s.1;
       window = tt;
+      owned = tt;
     }
 
     stay : (T : View → Type 0) (j : ℕ) → (T v → T left) → (u : View) × (get_elem? views j ≡ some u) × T u → (u : View) × (get_elem? (set views id left ++ right ∷ []) j ≡ some u) × T u

@@ -129,6 +129,7 @@ module _ (f : Form) (m : Memory) (blank : IsBlank f m) (few : f.callers ≤ 64) 
     ties = λ q i e. absurd (let z : 0 ≡ 1 = e in omega arith);
     stage = λ e. let z : 0 ≡ 1 = e in omega arith;
     window = tt;
+    owned = tt;
   }
 
   pub starts : Kept f m (first_view f ∷ [])

@@ -20,7 +20,7 @@ use Rattle.seg_rule.specs.Chain.{Seg, ChainOk, TailNote, end_of}
 use Rattle.seg_rule.specs.Slots.{free, full, Cell, holder}
 use Rattle.seg_rule.specs.Places.{HomeOk}
 use Rattle.seg_rule.specs.declared.form.Form.{Form}
-use Rattle.seg_rule.specs.Rule.{Ghosts, IsWhole, Shows, HeadNote, TailSeen, TailFact, FrontSeen, FrontFact, NotesOk, CandidateSeen, LengthAt, NextAt, IsPast, ScanSeen, LeaveOk, HandOk, HasTurn, StageOk, WindowOk, WindowFact, ViewOk, in_range, IsFree}
+use Rattle.seg_rule.specs.Rule.{Ghosts, IsWhole, Shows, HeadNote, TailSeen, TailFact, FrontSeen, FrontFact, NotesOk, CandidateSeen, LengthAt, NextAt, IsPast, ScanSeen, LeaveOk, HandOk, HasTurn, StageOk, WindowOk, WindowFact, WindowOwned, ViewOk, in_range, IsFree}
 use Rattle.seg_rule.specs.Rely.{IsLate, Grows, HandPlace, SameChain, SameTurn, same_chain, Rely}
 use Rattle.seg_rule.specs.Steps.{blank, blank_scan, no_scan}
 use Rattle.seg_rule.proofs.Chains.{prepared_late}
@@ -29,6 +29,10 @@ use Rattle.seg_rule.proofs.Spans.{range_is}
 pub if_some : {X : Type 0} (P Q : X → Type 0) → ((x : X) → P x → Q x) → (o : Option X) → IfSome o P → IfSome o Q
 if_some P Q f None y = tt
 if_some P Q f (Some x) y = f x y
+
+pub owned_by : {active : Type 0} → active → (w : Option Window) → WindowOwned active w
+owned_by a None = tt
+owned_by a (Some w) = a
 
 pub nothing_scanned : (g : Ghosts) → ScanSeen g blank_scan
 nothing_scanned g = record { first = tt; current = tt; length = tt; next = tt; past = tt; inside = tt; moved = tt; candidate = tt }
@@ -211,6 +215,7 @@ module _ (g g' : Ghosts) (c : ChainOk g.segs g.low g.last g.taken g.put) (k : Gr
 
     pub window_stays : (w : Window) → ((q n : ℕ) → in_range n (Some w) ≡ true → g.home q ≡ suc n → g.prep ≢ suc q → (g'.home q ≡ suc n) × (g'.prep ≢ suc q) × (g'.bar n ≡ g.bar n)) → WindowOk g w → WindowOk g' w
     window_stays w pins x = record {
+      some = x.some;
       opened = λ n r. let o = x.opened n r in let p = pins ((g.segs n).place) n r o.1 o.2 in let same : (g.segs n).place ≡ (g'.segs n).place = ap (λ (s : Seg). s.place) (sym (k.segs n o.0)) in
           (le_trans o.0 k.last_up, subst (λ (z : ℕ). g'.home z ≡ suc n) same p.0, subst (λ (z : ℕ). g'.prep ≢ suc z) same p.1, le_trans o.3 k.linked_up);
       behind = (le_trans x.behind.0 k.taken_up, le_trans x.behind.1 k.put_up);
@@ -307,4 +312,5 @@ view_stays f g g' j v c h r x = record {
   ties = λ q i e. x.ties q i (r.given q i e);
   stage = stage_stays g g' c r.grows j (HasNumber v.held v.caller) v.caller v.stage r.turned r.turns x.stage;
   window = window_fact_stays g g' c r.grows h v.window r.window_place x.window;
+  owned = x.owned;
 }

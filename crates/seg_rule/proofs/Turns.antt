@@ -117,6 +117,7 @@ module _ (f : Form) (m : Memory) (views : List View) (id : ℕ) (v : View) (k : 
           ties = ok.ties;
           stage = ((refl, refl, may.active), rest.1, rest.2, rest.3);
           window = window_fact_stays g g' k.words.chain grows k.words.homes v.window (λ a n p e s. (e, s, refl)) ok.window;
+          owned = ok.owned;
         };
         paid_by = let z : flag v.paid ≡ 0 = ap flag may.unpaid in omega arith;
         untold_by = λ a. refl;
@@ -181,6 +182,7 @@ module _ (f : Form) (m : Memory) (views : List View) (id : ℕ) (v : View) (k : 
           ties = ok.ties;
           stage = (st.0, refl, st.2, st.3, l.1, l.3, λ b. full_there s l b);
           window = window_fact_stays g g' k.words.chain grows k.words.homes v.window (λ a n p e s. (e, s, refl)) ok.window;
+          owned = ok.owned;
         };
         paid_by = refl;
         untold_by = λ a. refl;

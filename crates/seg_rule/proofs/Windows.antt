@@ -15,13 +15,14 @@ use Rattle.seg_rule.specs.Words.{Memory, update}
 use Rattle.seg_rule.specs.Chain.{end_of}
 use Rattle.seg_rule.specs.Places.{put_in}
 use Rattle.seg_rule.specs.declared.form.Form.{Form}
-use Rattle.seg_rule.specs.Rule.{Ghosts, IsWhole, NextAt, StageOk, WindowOk, WindowFact, ViewOk, Kept, watched, watches, in_range, flag}
+use Rattle.seg_rule.specs.Snapshots.{window_over, observing}
+use Rattle.seg_rule.specs.Rule.{Ghosts, IsWhole, NextAt, StageOk, WindowOk, WindowFact, WindowOwned, ViewOk, Kept, watched, watches, in_range, flag}
 use Rattle.seg_rule.specs.Rely.{Grows, SameTurn}
 use Rattle.seg_rule.specs.Steps.{blank, no_scan, count_made, MayCount}
 use Rattle.seg_rule.proofs.Chains.{in_chain}
 use Rattle.seg_rule.proofs.Slots.{slot_position}
 use Rattle.seg_rule.proofs.Spans.{range_is, range_told, same_flag, false_flag}
-use Rattle.seg_rule.proofs.Stays.{notes_stay, notes_alone, stage_stays, window_fact_stays}
+use Rattle.seg_rule.proofs.Stays.{notes_stay, notes_alone, stage_stays, window_fact_stays, owned_by}
 use Rattle.seg_rule.proofs.Frames.{kept_after}
 use Rattle.seg_rule.proofs.Sums.{total_part}
 use Rattle.seg_rule.proofs.Preps.{no_prep, prep_watch}
@@ -31,10 +32,6 @@ use Rattle.seg_rule.proofs.Looks.{entry_kept}
 use Rattle.ho_model.specs.declared.marks.CallMark.TheVariants.{Snap}
 use Rattle.ho_model.specs.declared.marks.ReplyMark.TheVariants.{Numbers}
 use Rattle.ho_model.specs.Entries.{entry}
-
--- a window that is not read yet
-abbrev window : ℕ → ℕ → ℕ → ℕ → Window
-window b e p q = record { begin = b; end = e; head = 0; tail = 0; first = p; last = q; after = None }
 
 module _ (f : Form) (m : Memory) (views : List View) (id : ℕ) (v : View) (k : Kept f m views) (at : get_elem? views id ≡ some v) where
   abbrev g : Ghosts
@@ -93,7 +90,7 @@ module _ (f : Form) (m : Memory) (views : List View) (id : ℕ) (v : View) (k : 
     watch_else n ne = ap (λ z. cond z (suc (g.watch e)) (g.watch n)) (ne_eqb e n ne)
 
     abbrev w : View
-    w = record v { notes = no_scan v.notes; stage = Observing q t b e ((g.segs e).place); window = Some (window b (suc e) p₀ ((g.segs e).place)) }
+    w = record v { notes = no_scan v.notes; stage = Observing q t b e ((g.segs e).place); window = Some (window_over b (suc e) p₀ ((g.segs e).place)) }
 
     abbrev m' : Memory
     m' = update m (Observers ((g.segs e).place)) (m (Observers ((g.segs e).place)) + 1)
@@ -161,7 +158,9 @@ module _ (f : Form) (m : Memory) (views : List View) (id : ℕ) (v : View) (k : 
             hand = ok.hand;
             ties = ok.ties;
             stage = ob;
+            owned = ob.0.2;
             window = record {
+              some = omega arith;
               opened = λ n r. let y = range_told b (suc e) n r in let y' = y.1 in ⊎_elim
                   (λ (s : n ≡ e). ((let z : n ≤ g.last = omega arith in z), subst (λ (z : ℕ). g.home ((g.segs z).place) ≡ suc z) (sym s) home_e, (λ z. let y : 0 ≡ suc ((g.segs n).place) = sym idle ∙ z in omega arith), (let o = k.words.links.order in let l = o.1 in let z : n ≤ g.linked = omega arith in z)))
                   (λ (ne : n ≢ e). was n (has n y.0 (omega arith)))
@@ -183,25 +182,25 @@ module _ (f : Form) (m : Memory) (views : List View) (id : ℕ) (v : View) (k : 
 
   -- observe add of the first place, by which the window begins
   pub first_observed_kept : (q t p : ℕ) (u : Bool) → v.stage ≡ Closed q t u → v.window ≡ None → (g.segs g.low).place ≡ p
-      → Kept f (update m (Observers p) (m (Observers p) + 1)) (set views id (record v { notes = no_scan v.notes; stage = Observing q t g.low g.low p; window = Some (window g.low (suc g.low) p p) }))
+      → Kept f (update m (Observers p) (m (Observers p) + 1)) (set views id (record v { notes = no_scan v.notes; stage = Observing q t g.low g.low p; window = Some (window_over g.low (suc g.low) p p) }))
   first_observed_kept q t p u is none at_first =
       let st : StageOk g id active v.caller (Closed q t u) = subst (StageOk g id active v.caller) is ok.stage in
       let never : (n : ℕ) → in_range n v.window ≡ true → ⊥ = (λ n r. true≢false (sym r ∙ ap (in_range n) none)) in
-      subst (λ (z : ℕ). Kept f (update m (Observers z) (m (Observers z) + 1)) (set views id (record v { notes = no_scan v.notes; stage = Observing q t g.low g.low z; window = Some (window g.low (suc g.low) z z) }))) at_first
+      subst (λ (z : ℕ). Kept f (update m (Observers z) (m (Observers z) + 1)) (set views id (record v { notes = no_scan v.notes; stage = Observing q t g.low g.low z; window = Some (window_over g.low (suc g.low) z z) }))) at_first
       (observed_kept q t g.low g.low ((g.segs g.low).place) (st.0, st.1, st.2, st.3, st.4, st.5, refl, le_refl _, k.words.chain.inside, refl) (λ n r. absurd (never n r)) (λ n l h. absurd (omega arith)) (λ n r. absurd (never n r)) refl)
 
   -- observe add of the next place
-  pub next_observed_kept : (q t b n p₀ p r : ℕ) → v.stage ≡ Observing q t b n p → v.window ≡ Some (window b (suc n) p₀ p) → p ≢ q → NextAt g (p, r)
-      → Kept f (update m (Observers r) (m (Observers r) + 1)) (set views id (record v { notes = no_scan v.notes; stage = Observing q t b (suc n) r; window = Some (window b (suc (suc n)) p₀ r) }))
-  next_observed_kept q t b n p₀ p r is open_window other next =
-      let st : StageOk g id active v.caller (Observing q t b n p) = subst (StageOk g id active v.caller) is ok.stage in
-      let old : WindowOk g (window b (suc n) p₀ p) = subst (WindowFact g) open_window ok.window in
+  pub next_observed_kept : (o : Window) (q t n p r : ℕ) → v.stage ≡ Observing q t o.begin n p → v.window ≡ Some o → o.end ≡ suc n → p ≢ q → NextAt g (p, r)
+      → Kept f (update m (Observers r) (m (Observers r) + 1)) (set views id (observing v q t o.begin (suc n) o.first r))
+  next_observed_kept o q t n p r is open_window ends other next =
+      let st : StageOk g id active v.caller (Observing q t o.begin n p) = subst (StageOk g id active v.caller) is ok.stage in
+      let old : WindowOk g o = subst (WindowFact g) open_window ok.window in
       let before : n < g.last = ⊎_elim (λ (l : n < g.last). l) (λ (l : g.last ≤ n). absurd (let y = st.8 in let e : n ≡ g.last = omega arith in other (sym st.9 ∙ (ap (λ (z : ℕ). (g.segs z).place) e ∙ st.5)))) (cases_lt n g.last) in
       let there : r ≡ (g.segs (suc n)).place = next n (let a = st.6 in let c = st.7 in omega arith) (let a = st.3 in omega arith) before st.9 in
-      let in_old : (x : ℕ) → in_range x v.window ≡ true → (leb b x && ltb x (suc n)) ≡ true = (λ x y. sym (ap (in_range x) open_window) ∙ y) in
-      subst (λ (z : ℕ). Kept f (update m (Observers z) (m (Observers z) + 1)) (set views id (record v { notes = no_scan v.notes; stage = Observing q t b (suc n) z; window = Some (window b (suc (suc n)) p₀ z) }))) (sym there)
-      (observed_kept q t b (suc n) p₀ (st.0, st.1, st.2, st.3, st.4, st.5, st.6, (let a = st.7 in omega arith), before, refl) (λ x y. range_told b (suc n) x (in_old x y)) (λ x l h. ap (in_range x) open_window ∙ range_is b (suc n) x l h) (λ x y. old.opened x (in_old x y))
-      (old.first (let a = st.7 in let z : b < suc n = omega arith in z)))
+      let in_old : (x : ℕ) → in_range x v.window ≡ true → (leb o.begin x && ltb x o.end) ≡ true = (λ x y. sym (ap (in_range x) open_window) ∙ y) in
+      subst (λ (z : ℕ). Kept f (update m (Observers z) (m (Observers z) + 1)) (set views id (observing v q t o.begin (suc n) o.first z))) (sym there)
+      (observed_kept q t o.begin (suc n) o.first (st.0, st.1, st.2, st.3, st.4, st.5, st.6, (let a = st.7 in omega arith), before, refl) (λ x y. let z = range_told o.begin o.end x (in_old x y) in let z' = z.1 in (z.0, (let l : x < suc n = omega arith in l))) (λ x l h. ap (in_range x) open_window ∙ range_is o.begin o.end x l (omega arith)) (λ x y. old.opened x (in_old x y))
+      (old.first old.some))
 
   -- a window over the whole chain has each position that is not taken
   abbrev full_window : ℕ → ℕ → Window
@@ -209,6 +208,7 @@ module _ (f : Form) (m : Memory) (views : List View) (id : ℕ) (v : View) (k : 
 
   pub window_full : (p q : ℕ) → (g.segs g.low).place ≡ p → (g.segs g.last).place ≡ q → g.prep ≡ 0 → g.now ≡ g.last → WindowOk g (full_window p q)
   window_full p q at_low at_last idle settled = record {
+    some = (let l = k.words.chain.inside in let z : g.low < suc g.last = omega arith in z);
     opened = λ n r. let q = range_told g.low (suc g.last) n r in let q' = q.1 in let l : n ≤ g.last = omega arith in (l, k.words.homes.chain n q.0 l, (λ z. never n z), (let o = k.words.links.order in let s = o.1 in let z : n ≤ g.linked = omega arith in z));
     behind = (le_refl _, le_refl _);
     first = λ l. at_low;
@@ -231,23 +231,24 @@ module _ (f : Form) (m : Memory) (views : List View) (id : ℕ) (v : View) (k : 
           (n, i, range_is g.low (suc g.last) n c.1 (let y = c.2 in omega arith), c.3, under, near, refl, slot_position len g.values g.taken (g.segs n).start (end_of g.segs g.last g.put n) (m (Number ((g.segs n).place) i)) (m (Item ((g.segs n).place) i)) p (g.cells ((g.segs n).place) i) slot lo c.3 under, le_trans bar lo)
 
   -- head look: with the tail closed, and the whole chain observed
-  pub head_looked : MayCount v → (q t b n p : ℕ) → v.stage ≡ Observing q t b n q → v.window ≡ Some (window b (suc n) p q) → let e : EntryMark = entry v.caller Snap (Numbers (map number_of (drop g.taken g.values))) in
-      Kept f m (set views id (record v { seen = g.log ++ e ∷ []; joint = None; made = count_made v.paid v.made v.caller; paid = false; notes = blank; stage = Closed q t false; window = Some (record { begin = b; end = suc n; head = g.taken; tail = g.put; first = p; last = q; after = None }) })) × (g.put ≡ t)
-  head_looked may q t b n p is open_window =
-      let st : StageOk g id active v.caller (Observing q t b n q) = subst (StageOk g id active v.caller) is ok.stage in
-      let old : WindowOk g (window b (suc n) p q) = subst (WindowFact g) open_window ok.window in
+  pub head_looked : MayCount v → (o : Window) (q t n : ℕ) → v.stage ≡ Observing q t o.begin n q → v.window ≡ Some o → o.end ≡ suc n → let e : EntryMark = entry v.caller Snap (Numbers (map number_of (drop g.taken g.values))) in
+      Kept f m (set views id (record v { seen = g.log ++ e ∷ []; joint = None; made = count_made v.paid v.made v.caller; paid = false; notes = blank; stage = Closed q t false; window = Some (record { begin = o.begin; end = o.end; head = g.taken; tail = t; first = o.first; last = q; after = None }) })) × (g.put ≡ t)
+  head_looked may o q t n is open_window ends =
+      let st : StageOk g id active v.caller (Observing q t o.begin n q) = subst (StageOk g id active v.caller) is ok.stage in
+      let old : WindowOk g o = subst (WindowFact g) open_window ok.window in
       let small : v.caller < 64 = (let o = (ok.holds.owns v.caller may.0).1 in let z = k.words.calls.small in omega arith) in
       let whole : n ≡ g.last = ⊎_elim (λ (e : n ≡ g.last). e) (λ (ne : n ≢ g.last). absurd (k.words.chain.apart n g.last (let a = st.6 in let c = st.7 in omega arith) (let a = st.8 in omega arith) (le_refl _) (st.9 ∙ sym st.5))) (cases_eq n g.last) in
+      let all : suc g.last ≡ o.end = sym (ends ∙ ap suc whole) in
       let e : EntryMark = entry v.caller Snap (Numbers (map number_of (drop g.taken g.values))) in
-      let at_low : (g.segs g.low).place ≡ p = ap (λ (z : ℕ). (g.segs z).place) st.6 ∙ old.first (let a = st.7 in let z : b < suc n = omega arith in z) in
-      let range : (x : ℕ) → in_range x v.window ≡ in_range x (Some (full_window p q)) = (λ x. ap (in_range x) open_window ∙ (λ i. leb (sym st.6 i) x && ltb x (suc (whole i)))) in (
-        subst (λ (z : ℕ × ℕ). Kept f m (set views id (record v { seen = g.log ++ e ∷ []; joint = None; made = count_made v.paid v.made v.caller; paid = false; notes = blank; stage = Closed q t false; window = Some (record { begin = z.0; end = suc z.1; head = g.taken; tail = g.put; first = p; last = q; after = None }) }))) (λ i. (st.6 i, sym whole i))
-            (entry_kept f m views id v k at e refl (snap_next f.room f.first_len g.log g.values g.putters g.taken v.caller k.words.counts.stands small) may (Closed q t false) (st.0, st.1, st.2, st.3, st.4, st.5, λ z. absurd (true≢false (sym z))) (Some (full_window p q)) range (window_full p q at_low st.5 st.2 st.3)),
+      let at_low : (g.segs g.low).place ≡ o.first = ap (λ (z : ℕ). (g.segs z).place) st.6 ∙ old.first old.some in
+      let range : (x : ℕ) → in_range x v.window ≡ in_range x (Some (full_window o.first q)) = (λ x. ap (in_range x) open_window ∙ (λ i. leb (sym st.6 i) x && ltb x (sym all i))) in (
+        subst (λ (z : (ℕ × ℕ) × ℕ). Kept f m (set views id (record v { seen = g.log ++ e ∷ []; joint = None; made = count_made v.paid v.made v.caller; paid = false; notes = blank; stage = Closed q t false; window = Some (record { begin = z.0.0; end = z.0.1; head = g.taken; tail = z.1; first = o.first; last = q; after = None }) }))) (λ i. ((st.6 i, all i), st.4 i))
+            (entry_kept f m views id v k at e refl (snap_next f.room f.first_len g.log g.values g.putters g.taken v.caller k.words.counts.stands small) may (Closed q t false) (st.0, st.1, st.2, st.3, st.4, st.5, λ z. absurd (true≢false (sym z))) (Some (full_window o.first q)) range (window_full o.first q at_low st.5 st.2 st.3)),
         st.4,
       )
 
   -- observe end: the first segment of the window is let go, and the window is read no more
-  module _ (o : Window) (is : v.window ≡ Some o) (some_left : o.begin < o.end) (rest : Option Window) (told : (n : ℕ) → in_range n rest ≡ true → (o.begin < n) × (n < o.end)) (has : (n : ℕ) → o.begin < n → n < o.end → in_range n rest ≡ true) (fact : WindowFact g rest) where
+  module _ (o : Window) (is : v.window ≡ Some o) (rest : Option Window) (told : (n : ℕ) → in_range n rest ≡ true → (o.begin < n) × (n < o.end)) (has : (n : ℕ) → o.begin < n → n < o.end → in_range n rest ≡ true) (fact : WindowFact g rest) where
     abbrev b : ℕ
     b = o.begin
 
@@ -265,6 +266,9 @@ module _ (f : Form) (m : Memory) (views : List View) (id : ℕ) (v : View) (k : 
 
     held_window : WindowOk g o
     held_window = subst (WindowFact g) is ok.window
+
+    some_left : b < e
+    some_left = held_window.some
 
     in_first : (leb b b && ltb b e) ≡ true
     in_first = range_is b e b (le_refl _) some_left
@@ -308,7 +312,7 @@ module _ (f : Form) (m : Memory) (views : List View) (id : ℕ) (v : View) (k : 
     end_by : (n : ℕ) → end_watch n + watches n v ≡ g.watch n + watches n w'
     end_by n = let old : watches n v ≡ flag (leb b n && ltb n e) = ap (λ z. flag (in_range n z)) is in ⊎_elim
         (λ (s : b ≡ n). let x : end_watch n ≡ g.watch n - 1 = ap (λ z. cond z (g.watch b - 1) (g.watch n)) (eq-eqb b n s) ∙ ap (λ z. g.watch z - 1) s in
-        let y : watches n v ≡ 1 = old ∙ ap flag (range_is b e n (omega arith) (omega arith)) in let one : 1 ≤ g.watch n = subst (λ z. 1 ≤ g.watch z) s some_watch in
+        let y : watches n v ≡ 1 = old ∙ ap flag (range_is b e n (omega arith) (let l = some_left in omega arith)) in let one : 1 ≤ g.watch n = subst (λ z. 1 ≤ g.watch z) s some_watch in
         let z : watches n w' ≡ 0 = ap flag (false_flag (in_range n rest) (λ r. let y = (told n r).0 in omega arith)) in omega arith)
         (λ (ne : b ≢ n). let x = end_else n ne in let z : watches n w' ≡ flag (leb b n && ltb n e) = ap flag (same_flag (in_range n rest) (leb b n && ltb n e)
         (λ r. let y = told n r in let y' = y.0 in range_is b e n (omega arith) y.1) (λ r. let y = range_told b e n r in let y' = y.0 in has n (omega arith) y.1)) in omega arith)
@@ -357,6 +361,7 @@ module _ (f : Form) (m : Memory) (views : List View) (id : ℕ) (v : View) (k : 
             ties = ok.ties;
             stage = stage_stays g e' k.words.chain end_grows id active v.caller v.stage (λ e. same) (λ e. e) ok.stage;
             window = window_fact_stays g e' k.words.chain end_grows k.words.homes rest (λ a n p s r. (s, r, refl)) fact;
+            owned = owned_by (subst (WindowOwned active) is ok.owned) rest;
           };
           paid_by = refl;
           untold_by = λ a. refl;
@@ -367,17 +372,18 @@ module _ (f : Form) (m : Memory) (views : List View) (id : ℕ) (v : View) (k : 
         }
 
   -- of a window with more than one segment the others are left, and it is read no more
-  pub more_left_kept : (o : Window) (r : ℕ) → v.window ≡ Some o → o.begin < o.end → o.first ≢ o.last → o.after ≡ Some r
-      → Kept f (update m (Observers o.first) (m (Observers o.first) - 1)) (set views id (record v { window = Some (record { begin = suc o.begin; end = o.end; head = 0; tail = 0; first = r; last = o.last; after = None }) }))
-  more_left_kept o r is some_left more next =
-      let x : WindowOk g o = subst (WindowFact g) is ok.window in
+  pub more_left_kept : (o : Window) (r : ℕ) → v.window ≡ Some o → o.first ≢ o.last → o.after ≡ Some r
+      → Kept f (update m (Observers o.first) (m (Observers o.first) - 1)) (set views id (record v { window = Some (window_over (suc o.begin) o.end r o.last) }))
+  more_left_kept o r is more next =
+      let x : WindowOk g o = subst (WindowFact g) is ok.window in let some_left : o.begin < o.end = x.some in
       let beyond : suc o.begin < o.end = ⊎_elim (λ (l : suc o.begin < o.end). l) (λ (l : o.end ≤ suc o.begin). absurd (more (sym (x.first some_left) ∙ x.last o.begin (omega arith) (le_refl _)))) (cases_lt (suc o.begin) o.end) in
       let there : r ≡ (g.segs (suc o.begin)).place = (subst (λ (z : Option ℕ). IfSome z (λ r. suc o.begin < o.end → r ≡ (g.segs (suc o.begin)).place)) next x.after) beyond in
-      subst (λ (z : ℕ). Kept f (update m (Observers z) (m (Observers z) - 1)) (set views id (record v { window = Some (record { begin = suc o.begin; end = o.end; head = 0; tail = 0; first = r; last = o.last; after = None }) }))) (x.first some_left)
-      (ended_kept o is some_left (Some (record { begin = suc o.begin; end = o.end; head = 0; tail = 0; first = r; last = o.last; after = None }))
+      subst (λ (z : ℕ). Kept f (update m (Observers z) (m (Observers z) - 1)) (set views id (record v { window = Some (window_over (suc o.begin) o.end r o.last) }))) (x.first some_left)
+      (ended_kept o is (Some (window_over (suc o.begin) o.end r o.last))
       (λ n y. let z = range_told (suc o.begin) o.end n y in (z.0, z.1))
       (λ n l h. range_is (suc o.begin) o.end n l h)
       record {
+        some = beyond;
         opened = λ n y. let z = range_told (suc o.begin) o.end n y in let z' = z.0 in x.opened n (range_is o.begin o.end n (omega arith) z.1);
         behind = (omega arith, omega arith);
         first = λ l. sym there;
@@ -387,10 +393,10 @@ module _ (f : Form) (m : Memory) (views : List View) (id : ℕ) (v : View) (k : 
       })
 
   -- and of one with one segment nothing is left
-  pub none_left_kept : (o : Window) → v.window ≡ Some o → o.begin < o.end → o.first ≡ o.last
+  pub none_left_kept : (o : Window) → v.window ≡ Some o → o.first ≡ o.last
       → Kept f (update m (Observers o.first) (m (Observers o.first) - 1)) (set views id (record v { window = None }))
-  none_left_kept o is some_left same_place =
-      let x : WindowOk g o = subst (WindowFact g) is ok.window in
+  none_left_kept o is same_place =
+      let x : WindowOk g o = subst (WindowFact g) is ok.window in let some_left : o.begin < o.end = x.some in
       let least : o.end ≡ suc o.begin = ⊎_elim
       (λ (l : suc o.begin < o.end). absurd (
       let top : suc (o.end - 1) ≡ o.end = omega arith in
@@ -399,4 +405,4 @@ module _ (f : Form) (m : Memory) (views : List View) (id : ℕ) (v : View) (k : 
       let z : suc o.begin ≡ suc (o.end - 1) = sym a.1 ∙ (ap g.home both ∙ c.1) in omega arith))
       (λ (l : o.end ≤ suc o.begin). omega arith) (cases_lt (suc o.begin) o.end) in
       subst (λ (z : ℕ). Kept f (update m (Observers z) (m (Observers z) - 1)) (set views id (record v { window = None }))) (x.first some_left)
-      (ended_kept o is some_left None (λ n y. absurd (true≢false (sym y))) (λ n l h. absurd (omega arith)) tt)
+      (ended_kept o is None (λ n y. absurd (true≢false (sym y))) (λ n l h. absurd (omega arith)) tt)

@@ -15,3 +15,4 @@ pub mod Passes
 pub mod Looks
 pub mod Stores
 pub mod Blank
+pub mod Snapshots

@@ -342,6 +342,7 @@ StageOk g j active c (Observing q t b n p) = HasTurn g j active c × (g.shut ≡
 
 -- a window: its places show its segments, and each of its positions lies in one of them and is not released
 pub record WindowOk (g : Ghosts) (w : Window) : Type 0 where
+  pub some : w.begin < w.end
   pub opened : (k : ℕ) → in_range k (Some w) ≡ true → (k ≤ g.last) × (g.home ((g.segs k).place) ≡ suc k) × (g.prep ≢ suc ((g.segs k).place)) × (k ≤ g.linked)
   pub behind : (w.head ≤ g.taken) × (w.tail ≤ g.put)
   pub first : w.begin < w.end → (g.segs w.begin).place ≡ w.first
@@ -353,6 +354,11 @@ pub record WindowOk (g : Ghosts) (w : Window) : Type 0 where
 abbrev pub WindowFact : Ghosts → Option Window → Type 0
 WindowFact g None = Unit {0}
 WindowFact g (Some w) = WindowOk g w
+
+-- a pass with a window holds its own number
+abbrev pub WindowOwned : Type 0 → Option Window → Type 0
+WindowOwned active None = Unit {0}
+WindowOwned active (Some w) = active
 
 -- the slot that is in hand
 abbrev pub LeaveHas : Leave → Type 0
@@ -382,6 +388,7 @@ pub record ViewOk (f : Form) (g : Ghosts) (j : ℕ) (v : View) : Type 0 where
   pub ties : (q i : ℕ) → holder (g.cells q i).1 ≡ suc j → InHand v.hand q i
   pub stage : StageOk g j (HasNumber v.held v.caller) v.caller v.stage
   pub window : WindowFact g v.window
+  pub owned : WindowOwned (HasNumber v.held v.caller) v.window
 
 -- the rule of the views
 pub record Views (f : Form) (g : Ghosts) (views : List View) : Type 0 where

@@ -13,6 +13,7 @@ ghost use Rattle.seg_rule.specs.Entering.{MayEnterFull, EntersFull, MayEnterEmpt
 ghost use Rattle.seg_rule.specs.Plays.{Reads, Decided};
 ghost use Rattle.seg_rule.specs.Looks.{MayLook, MayLoad, Loads};
 ghost use Rattle.seg_rule.specs.Stores.{MayStore, stage_by};
+ghost use Rattle.seg_rule.specs.Snapshots.{MayObserve, Observes, MayLookAll, Snaps, tail_at, MayEnd, without_first};
 ghost use Rattle.seg_rule.specs.Passes.{form_of, SplitsPass, JoinsPass, MayReserveAt, ReservesAt, MayTakeAt, TakesAt, IsOf, IsReserved, IsStored, IsMeasured, IsTaken, IsClosed};
 
 use crate::entering::Entering;
@@ -20,9 +21,9 @@ use crate::form::Form;
 use crate::pass::{Here, QueuePass, count_entry};
 use crate::plays::QueueRule;
 use crate::start::first_words;
-use crate::steps;
 use crate::view::View;
 use crate::word::QueueWord;
+use crate::{snapshot, steps};
 use atomic_table::Table;
 use ho_base::NoMemory;
 use passes::Numbers;
@@ -592,6 +593,46 @@ impl QueueTable {
             QueueWord::Next(place) => self.put_next(pass, place, value),
             _ => unreachable!(),
         }
+    }
+
+    /// Observes a place of the chain, by a pass that has the tail closed: what is taken in it from now on
+    /// stays in its slots until the place is let go. The places are observed in their order, from the
+    /// first to the current one.
+    pub fn observe_add(&self, pass: &mut QueuePass, place: u32)
+        requires of { IsOf self.now pass.old }
+        requires place { place < self.now.form.places }
+        requires may { MayObserve pass.old.view place }
+        ensures same { pass.new.table ≡ pass.old.table }
+        ensures observed { Observes pass.old.view place pass.new.view }
+    {
+        snapshot::observe_add::<Brand>(&self.table.shared, self.form.slots, &mut pass.seat, place);
+    }
+
+    /// Loads the head, once the current place is observed too. With this load the entry of the snapshot
+    /// stands in the history: its reply is the whole queue, the items of the positions from the head
+    /// that is returned up to the closed tail. The pass has them in its window.
+    pub fn head_look(&self, pass: &mut QueuePass) -> u64
+        requires of { IsOf self.now pass.old }
+        requires may { MayLookAll pass.old.view }
+        ensures same { pass.new.table ≡ pass.old.table }
+        ensures taken { Snaps pass.old.view result pass.new.view
+            × (result ≤ tail_at pass.old.view.stage) }
+    {
+        let head = snapshot::head_look(&self.table.shared, self.form.slots, &mut pass.seat);
+        count_entry(&mut pass.numbers, pass.here.paid);
+        pass.here.paid = false;
+        head
+    }
+
+    /// Lets the first place of the window go, of which the next word was read, if it is not the last.
+    /// The window is then over the places after it, and has no position any more.
+    pub fn observe_end(&self, pass: &mut QueuePass, place: u32)
+        requires of { IsOf self.now pass.old }
+        requires place { place < self.now.form.places }
+        requires may { MayEnd pass.old.view place }
+        ensures { pass.new ≡ record pass.old { view = without_first pass.old.view } }
+    {
+        snapshot::observe_end(&self.table.shared, self.form.slots, &mut pass.seat, place);
     }
 
     /// Splits off a pass with the least number that can be given away, which has seen as much.

@@ -40,3 +40,24 @@ fn a_number_is_split_off_and_joined(rt: HostRuntime) -> Result<(), Fail> {
     assert_eq!(rt; pass.spare(), 1);
     Ok(())
 }
+
+#[test]
+fn an_item_is_put_into_its_slot(rt: HostRuntime) -> Result<(), Fail> {
+    let (table, mut pass) = QueueTable::new(rt.alloc(), 2, 2, 1)?;
+    let tail = table.load(&mut pass, QueueWord::Tail(0), Entering::Nothing);
+    let head = table.load(&mut pass, QueueWord::Head, Entering::Nothing);
+    let length = table.load(&mut pass, QueueWord::Length(0), Entering::Nothing);
+    let number = table.load(&mut pass, QueueWord::Number(0, 0), Entering::Nothing);
+    assert_eq!(rt; (tail, head, length, number), (0, 0, 2, 0));
+    if tail != 0 || head != 0 || length != 2 || number != 0 {
+        return Err(Fail::new("other words"));
+    }
+    let Ok(()) = table.tail_reserve(&mut pass, 0, 0, 7) else {
+        return Err(Fail::new("the tail moved"));
+    };
+    table.item_store(&mut pass);
+    table.publish(&mut pass);
+    let number = table.load(&mut pass, QueueWord::Number(0, 0), Entering::Nothing);
+    assert_eq!(rt; number, 1);
+    Ok(())
+}
