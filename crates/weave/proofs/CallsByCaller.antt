@@ -6,6 +6,7 @@ use Rattle.std.proofs.lemmas.Bool.{ne_eqb}
 use Rattle.std.proofs.lemmas.Option.{same_Some, none-some}
 use Rattle.ho_base.specs.declared.receipts.Receipt.{Receipt}
 use Rattle.weave.specs.declared.made.Made.{Made}
+use Rattle.weave.specs.Order.{EachTold}
 use Rattle.weave.specs.Parts.{PartMade, Told, made_by, OfDifferentCallers, HasParts}
 
 -- 1. The calls of one caller
@@ -76,10 +77,6 @@ first_of c m ms (t ∷ ts) h = dite (ℕ_discrete t.caller c)
     })
 
 -- 3. What holds of the receipt of each call
-abbrev pub EachTold : (Receipt → Type 0) → List Told → Type 0
-EachTold P [] = Unit {0}
-EachTold P (t ∷ ts) = P t.made.receipt × EachTold P ts
-
 abbrev pub EachMade : (Receipt → Type 0) → List Made → Type 0
 EachMade P [] = Unit {0}
 EachMade P (m ∷ ms) = P m.receipt × EachMade P ms

@@ -4,3 +4,9 @@ pub mod CallsByCaller
 pub mod Lefts
 -- Histories by their places.
 pub mod ByPlace
+-- Calls that may change places, by the counts that their receipts name.
+pub mod Swaps
+-- What a queue replies, by the items that were enqueued in all.
+pub mod Replies
+-- The laws of the order.
+pub mod Orders

@@ -22,10 +22,14 @@ GoesBefore room (Looked head tail) (Enqueued q t) = tail ≤ q
 GoesBefore room (Looked head tail) (Dequeued q) = head ≤ q
 GoesBefore room _ _ = ⊥
 
+-- each call has such a receipt
+abbrev pub EachTold : (Receipt → Type 0) → List Told → Type 0
+EachTold P [] = Unit {0}
+EachTold P (x ∷ xs) = P x.made.receipt × EachTold P xs
+
 -- none of these calls goes before the call with this receipt
 abbrev pub NoneBefore : ℕ → Receipt → List Told → Type 0
-NoneBefore room y [] = Unit {0}
-NoneBefore room y (x ∷ xs) = (GoesBefore room x.made.receipt y → ⊥) × NoneBefore room y xs
+NoneBefore room y xs = EachTold (λ x. GoesBefore room x y → ⊥) xs
 
 -- no call goes before one that stands earlier
 abbrev pub KeepsOrder : ℕ → List Told → Type 0

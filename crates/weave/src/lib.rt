@@ -2,10 +2,15 @@
 #![tactic(auto)]
 
 mod cursors;
+mod laws;
 mod made;
 mod parts;
 mod placed;
 
+pub use laws::{
+    a_call_may_stand_earlier, a_history_keeps_the_order,
+    every_order_that_keeps_the_relation_is_legal,
+};
 pub use made::Made;
 pub use parts::Part;
 pub use placed::weave_placed;
