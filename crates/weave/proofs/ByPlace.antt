@@ -1,5 +1,5 @@
 -- Histories by their places: the next call is the one whose place is the count of those before it.
-use Rattle.std.proofs.Common.{◌≡◌, ◌≢◌, ◌<◌, ◌≤◌, ◌+◌, ◌++◌, ◌∙◌, ℕ, zero, suc, List, [], ◌∷◌, length, map, set, slice_get, get_or, Option, Some, None, eqb, ltb, true, false, Bool, cond, refl, sym, ap, subst, arith, append_assoc, append-nil, length-append, inl, inr, eq-eqb}
+use Rattle.std.proofs.Common.{◌≡◌, ◌++◌, ◌∙◌, ℕ, List, [], ◌∷◌, length, map, slice_get, get_or, Some, None, true, false, Bool, cond, refl, sym, ap, subst, arith, append_assoc, append-nil, length-append, inl, inr, eq-eqb}
 use Rattle.std.specs.List.{position, position_or_len}
 use Rattle.std.proofs.lemmas.Bool.{cases_lt, lt-ltb, eqb-true}
 use Rattle.std.proofs.lemmas.List.{map_push, length-map}
@@ -13,9 +13,9 @@ use Rattle.weave.specs.declared.made.Made.{Made}
 use Rattle.weave.specs.declared.cursors.Cursor.{Cursor}
 use Rattle.weave.specs.Parts.{PartMade, Told, entry_told, made_by, OfDifferentCallers, HasParts}
 use Rattle.weave.specs.Places.{AreAtPlaces, IsPlaced}
-use Rattle.weave.specs.Cursors.{part_left, parts_left, HasNext, TakesNext, is_place, begins_at}
-use Rattle.weave.proofs.CallsByCaller.{FirstOf, first_of, fewer_parts, fewer_differ, begins_a_part}
-use Rattle.weave.proofs.Lefts.{left_at}
+use Rattle.weave.specs.Cursors.{part_left, parts_left, TakesNext, is_place, begins_at}
+use Rattle.weave.proofs.CallsByCaller.{first_of, fewer_parts, fewer_differ, begins_a_part}
+use Rattle.weave.proofs.Lefts.{left_at, left_is}
 
 -- 1. The part that begins with a place
 abbrev pub begins : ℕ → Cursor → Bool
@@ -33,11 +33,6 @@ none_begins test xs h k x at = elim (cases_lt (position_or_len test xs) (length 
   | inl lt ↦ absurd (none-some (position_or_len test xs) (sym h ∙ ap (λ b. cond b (Some (position_or_len test xs)) None) (lt-ltb _ _ lt)))
   | inr le ↦ (let within = slice_get_within xs k x at in ap test (sym (get_or_from_slice_get xs k x x at)) ∙ fails_before_first test xs k x (omega arith))
 ]
-
-left_is : (cursors : List Cursor) (i : ℕ) (p : PartMade) → slice_get (parts_left cursors) i ≡ Some p → (c : Cursor) × (slice_get cursors i ≡ Some c) × (part_left c ≡ p)
-left_is [] i p at = absurd (none-some p at)
-left_is (c ∷ cursors) zero p at = (c, refl, same_Some (part_left c) p at)
-left_is (c ∷ cursors) (suc i) p at = left_is cursors i p at
 
 pub begins_nowhere : (cursors : List Cursor) (place : ℕ) → position (begins place) cursors ≡ None → (i : ℕ) (p : PartMade) → slice_get (parts_left cursors) i ≡ Some p → begins_at place p.made ≡ false
 begins_nowhere cursors place h i p at =

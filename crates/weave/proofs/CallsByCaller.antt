@@ -1,5 +1,5 @@
 -- The calls of each caller in a history, and a history without the first call of one.
-use Rattle.std.proofs.Common.{◌≡◌, ◌≢◌, ◌<◌, ◌⊎◌, inl, inr, ◌++◌, ◌∙◌, ℕ, zero, suc, List, [], ◌∷◌, length, set, slice_get, Option, Some, None, eqb, true, false, cond, refl, sym, ap, subst, arith, eq-eqb}
+use Rattle.std.proofs.Common.{◌≡◌, ◌≢◌, ◌⊎◌, inl, inr, ◌++◌, ◌∙◌, ℕ, zero, suc, List, [], ◌∷◌, set, slice_get, Some, eqb, cond, refl, sym, ap, subst, eq-eqb}
 use mathlib.Core.Logic.{dite}
 use native.Mathlib.Decide.{ℕ_discrete}
 use Rattle.std.proofs.lemmas.Bool.{ne_eqb}
@@ -131,7 +131,7 @@ pub parts_each : (P : Receipt → Type 0) (parts : List PartMade) (ts : List Tol
 parts_each P parts ts has each i p at = subst (EachMade P) (has.each i p at) (each_made P ts p.caller each)
 
 -- 5. A part without its first call
-get_set_same : {A : Type 0} (xs : List A) (i : ℕ) (x y : A) → slice_get xs i ≡ Some y → slice_get (set xs i x) i ≡ Some x
+pub get_set_same : {A : Type 0} (xs : List A) (i : ℕ) (x y : A) → slice_get xs i ≡ Some y → slice_get (set xs i x) i ≡ Some x
 get_set_same [] i x y h = absurd (none-some y h)
 get_set_same (z ∷ xs) zero x y h = refl
 get_set_same (z ∷ xs) (suc i) x y h = get_set_same xs i x y h

@@ -1,19 +1,22 @@
 -- What is left of the parts, once a call is taken.
-use Rattle.std.proofs.Common.{◌≡◌, ◌<◌, ◌+◌, ◌∙◌, ℕ, List, [], ◌∷◌, length, map, set, slice_get, get_or, Option, Some, None, refl, sym, ap, arith}
+use Rattle.std.proofs.Common.{◌≡◌, ◌<◌, ◌+◌, ◌∙◌, ℕ, zero, suc, List, [], ◌∷◌, length, set, slice_get, get_or, Option, Some, None, refl, sym, ap, arith}
 use Rattle.std.specs.List.{sum_by}
 use Rattle.std.proofs.lemmas.List.{map-set, length-map}
 use Rattle.std.proofs.lemmas.List.Sums.{sum_by-set}
-use Rattle.std.proofs.lemmas.Option.{same_Some, slice_get-map, slice_get_within, slice_get-get_or, get_or_from_slice_get}
+use Rattle.std.proofs.lemmas.Option.{same_Some, none-some, slice_get-map, slice_get_within, slice_get-get_or, get_or_from_slice_get}
 use Rattle.ho_model.specs.declared.histories.Entry.{Entry}
-use Rattle.weave.specs.declared.made.Made.{Made}
 use Rattle.weave.specs.declared.cursors.Cursor.{Cursor}
-use Rattle.weave.specs.Parts.{PartMade, OfDifferentCallers, HasParts, Told}
+use Rattle.weave.specs.Parts.{PartMade}
 use Rattle.weave.specs.Cursors.{part_left, parts_left, HasNext, TakesNext}
-use Rattle.weave.proofs.CallsByCaller.{FirstOf, first_of, fewer_parts, fewer_differ}
 
 -- what is left at an index
 pub left_at : (cursors : List Cursor) (i : ℕ) (c : Cursor) → slice_get cursors i ≡ Some c → slice_get (parts_left cursors) i ≡ Some (part_left c)
 left_at cursors i c at = slice_get-map part_left cursors i ∙ ap (λ (o : Option Cursor). elim o [ None ↦ None | Some x ↦ Some (part_left x) ]) at
+
+pub left_is : (cursors : List Cursor) (i : ℕ) (p : PartMade) → slice_get (parts_left cursors) i ≡ Some p → (c : Cursor) × (slice_get cursors i ≡ Some c) × (part_left c ≡ p)
+left_is [] i p at = absurd (none-some p at)
+left_is (c ∷ cursors) zero p at = (c, refl, same_Some (part_left c) p at)
+left_is (c ∷ cursors) (suc i) p at = left_is cursors i p at
 
 -- a call taken at an index
 pub taken_at : (cursors : List Cursor) (i : ℕ) (old new : Cursor) (e : Entry) → i < length cursors → old ≡ get_or cursors i old → TakesNext (part_left old ∷ []) 0 e (part_left new ∷ []) → TakesNext (parts_left cursors) i e (parts_left (set cursors i new))

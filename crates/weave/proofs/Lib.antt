@@ -10,3 +10,11 @@ pub mod Swaps
 pub mod Replies
 -- The laws of the order.
 pub mod Orders
+-- The first call left of each kind tells of all that are left.
+pub mod Firsts
+-- The part whose turn it is.
+pub mod Choices
+-- A history woven a turn at a time.
+pub mod Turns
+-- What is ahead of a part, once its first call is taken.
+pub mod Behind

@@ -1,15 +1,14 @@
 -- The laws of the order in which a queue's calls stand.
-use Rattle.std.proofs.Common.{◌≡◌, ◌≢◌, ℕ, ◌≤◌, List, [], ◌∷◌, ◌++◌, refl, sym, ap, ◌∙◌, subst, arith, append_assoc}
+use Rattle.std.proofs.Common.{◌≡◌, ◌≢◌, ℕ, ◌≤◌, List, [], ◌∷◌, ◌++◌, refl, sym, ◌∙◌, subst, arith, append_assoc}
 use mathlib.Core.Logic.{dite}
 use native.Mathlib.Decide.{ℕ_discrete}
 use Rattle.ho_base.specs.declared.receipts.Receipt.{Receipt}
-use Rattle.weave.specs.declared.made.Made.{Made}
 use Rattle.weave.specs.Parts.{Told, made_by}
 use Rattle.weave.specs.Order.{GoesBefore, EachTold, NoneBefore, KeepsOrder}
 use Rattle.weave.specs.Queues.{IsQueueHistory}
 use Rattle.weave.specs.Laws.{LaterDoNotGoBefore, CallsPullForward, OrdersAreHistories}
-use Rattle.weave.proofs.CallsByCaller.{EachMade, each_made, each_told, each_front, FirstOf, first_of, made_own, made_other}
-use Rattle.weave.proofs.Swaps.{Fits, takes_then, enqueues_then, AllFit, MayNot, may_go, steps, first_free, pull_behind}
+use Rattle.weave.proofs.CallsByCaller.{EachMade, each_made, each_told, each_front, first_of, made_own, made_other}
+use Rattle.weave.proofs.Swaps.{takes_then, enqueues_then, AllFit, MayNot, may_go, steps, first_free, pull_behind}
 use Rattle.weave.proofs.Replies.{fit_and_agree, is_history, agree_pulled}
 
 pub each_weaker : (P Q : Receipt → Type 0) → ((r : Receipt) → P r → Q r) → (xs : List Told) → EachTold P xs → EachTold Q xs

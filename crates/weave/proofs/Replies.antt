@@ -1,7 +1,7 @@
 -- Legal histories of a queue by two things: the counts that the receipts name, in turn; and of each call
 -- alone, that it agrees with the items that the history enqueues in all.
-use Rattle.std.proofs.Common.{◌≡◌, ℕ, zero, suc, ◌+◌, ◌*◌, ◌<◌, ◌≤◌, List, [], ◌∷◌, ◌++◌, length, take, map, slice_get, Option, Some, None, refl, sym, ap, ◌∙◌, subst, arith, append_assoc, append-nil}
-use Rattle.std.proofs.lemmas.Option.{none-some, slice_get_within}
+use Rattle.std.proofs.Common.{◌≡◌, ℕ, zero, suc, ◌+◌, ◌<◌, List, [], ◌∷◌, ◌++◌, length, take, map, slice_get, Some, refl, sym, ap, ◌∙◌, subst, arith, append_assoc, append-nil}
+use Rattle.std.proofs.lemmas.Option.{none-some}
 use Rattle.ho_base.specs.Marks.{Mark, number_priority}
 use Rattle.ho_base.specs.declared.receipts.Receipt.{Receipt}
 use Rattle.ho_base.specs.declared.receipts.Receipt.TheVariants.{Place, Enqueued, Dequeued, Peeked, Looked}
@@ -15,7 +15,6 @@ use Rattle.ho_model.specs.declared.marks.Tally.{Tally}
 use Rattle.ho_model.specs.Objects.{most_callers}
 use Rattle.ho_model.specs.Tallies.{no_tally, tally_next}
 use Rattle.ho_model.specs.Enqueues.{enqueued_in, values_of}
-use Rattle.ho_model.specs.Histories.{IsLegal}
 use Rattle.ho_model.specs.Written.{history_of}
 use Rattle.ho_model.specs.QueueReplies.{AreCounts, IsQueueReply, AllReply}
 use Rattle.ho_model.specs.QueueReceipts.{IsQueueReceipt, IsLook}

@@ -5,7 +5,7 @@ use Rattle.ho_base.specs.declared.receipts.Receipt.TheVariants.{Place}
 use Rattle.ho_model.specs.declared.histories.Entry.{Entry}
 use Rattle.weave.specs.declared.made.Made.{Made}
 use Rattle.weave.specs.declared.cursors.Cursor.{Cursor}
-use Rattle.weave.specs.Parts.{PartMade, Told, entry_told}
+use Rattle.weave.specs.Parts.{PartMade, entry_told}
 
 abbrev pub part_left : Cursor → PartMade
 part_left c = record { caller = c.caller; made = c.left.now }

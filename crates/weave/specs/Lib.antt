@@ -4,3 +4,4 @@ pub mod Order
 pub mod Queues
 pub mod Laws
 pub mod Cursors
+pub mod Aheads

@@ -1,11 +1,14 @@
 //! One history from what each caller made, with receipts.
 #![tactic(auto)]
 
+mod aheads;
 mod cursors;
 mod laws;
+mod least;
 mod made;
 mod parts;
 mod placed;
+mod queue;
 
 pub use laws::{
     a_call_may_stand_earlier, a_history_keeps_the_order,
@@ -14,3 +17,4 @@ pub use laws::{
 pub use made::Made;
 pub use parts::Part;
 pub use placed::weave_placed;
+pub use queue::weave_queue;

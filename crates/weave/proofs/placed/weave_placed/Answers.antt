@@ -1,7 +1,5 @@
-use Rattle.std.proofs.Common.{rules, ◌≡◌, ◌<◌, ◌∙◌, ◌++◌, ◌∷◌, [], ℕ, List, length, Option, Some, None, ap, sym, subst}
+use Rattle.std.proofs.Common.{rules, ◌≡◌, ◌∙◌, length, Some, None, sym, subst}
 use Rattle.std.specs.List.{position}
-use Rattle.ho_model.specs.declared.histories.Entry.{Entry}
-use Rattle.weave.specs.Parts.{PartMade, Told}
 use Rattle.weave.specs.Cursors.{parts_left}
 use Rattle.weave.proofs.Lefts.{fewer_left}
 use Rattle.weave.proofs.ByPlace.{begins, begins_there, begins_nowhere, first_at, IsWovenUpTo, nothing_woven, one_more, all_woven}

@@ -1,0 +1,43 @@
+use Rattle.std.proofs.Common.{rules, ◌≡◌, ◌∙◌, List, length, Some, None, sym, subst}
+use Rattle.std.proofs.lemmas.List.{length-map}
+use Rattle.weave.specs.declared.aheads.Ahead.{Ahead}
+use Rattle.weave.specs.Cursors.{part_left, parts_left}
+use Rattle.weave.specs.Aheads.{aheads_of, IsLeast}
+use Rattle.weave.proofs.Lefts.{fewer_left}
+use Rattle.weave.proofs.Turns.{IsWeaving, nothing_yet, next_of, turn_taken, woven}
+use Rattle.weave.proofs.queue.weave_queue.Goals as goal
+
+pub turns-init : goal.turns-init
+turns-init c =
+    let is : c.in_ok-aheads.aheads.items ≡ aheads_of (parts_left c.in_ok-cursors.cursors.items) = search rules in (
+      subst (IsWeaving c.args.room c.args.parts.now (parts_left c.in_ok-cursors.cursors.items)) (sym c.new-entries.ensures.items)
+          (nothing_yet c.args.room c.args.parts.now (parts_left c.in_ok-cursors.cursors.items) c.in_ok-cursors.ensures c.requires.differ c.requires.queue.0 c.requires.queue.1),
+      is,
+    )
+
+pub turns-smaller : goal.turns-smaller
+turns-smaller c = fewer_left (parts_left c.turns.cursors.items) (parts_left c.take_turn.new.cursors.items) c.in-Some.least.index c.in_ok-entry.entry c.in_ok-entry.ensures.takes
+
+pub take_turn-requires-clause-next : goal.take_turn-requires-clause-next
+take_turn-requires-clause-next c =
+    let least : IsLeast c.args.room c.turns.aheads.items (parts_left c.turns.cursors.items) (length c.turns.cursors.items) (Some c.in-Some.least) = search rules in
+    let next = next_of c.args.room c.turns.aheads.items least.0.made least.3 in
+    (least.0, next.0, next.1, least.1, next.2)
+
+pub turns-preserved : goal.turns-preserved
+turns-preserved c =
+    let left = parts_left c.turns.cursors.items in let room = c.args.room in
+    let least : IsLeast room c.turns.aheads.items left (length c.turns.cursors.items) (Some c.in-Some.least) = search rules in
+    let goes = subst (λ (a : List Ahead). IsLeast room a left (length c.turns.cursors.items) (Some c.in-Some.least)) c.turns.invariant.1 least in (
+      subst (IsWeaving room c.args.parts.now (parts_left c.take_turn.new.cursors.items)) (sym c.in_ok-push.ensures.items)
+          (turn_taken room c.args.parts.now left c.turns.entries.items c.turns.invariant.0 c.in-Some.least.index goes.0 goes.1 goes.3 c.in_ok-entry.entry (parts_left c.take_turn.new.cursors.items) c.in_ok-entry.ensures.takes),
+      c.in_ok-entry.ensures.ahead,
+    )
+
+pub returns : goal.returns
+returns c =
+    let cursors = c.turns.cursors.items in let left = parts_left cursors in let room = c.args.room in
+    let least : IsLeast room c.turns.aheads.items left (length cursors) None = search rules in
+    let stuck = subst (λ (a : List Ahead). IsLeast room a left (length cursors) None) c.turns.invariant.1 least in
+    let w = woven room c.args.parts.now left c.turns.entries.items c.turns.invariant.0 (length cursors) (sym (length-map cursors part_left)) stuck in
+    (w.0, w.1, c.from_vec.ensures ∙ w.2)
