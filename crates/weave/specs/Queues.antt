@@ -1,7 +1,8 @@
 -- Legal histories of a queue, with their receipts.
-use Rattle.std.specs.Prelude.{ℕ, List, [], ◌∷◌, map}
+use Rattle.std.specs.Prelude.{◌≡◌, ℕ, List, [], ◌∷◌, map}
 use Rattle.ho_base.specs.Marks.{number_priority}
 use Rattle.ho_model.specs.declared.objects.Object.TheVariants.{Queue}
+use Rattle.ho_model.specs.declared.histories.Entry.{Entry}
 use Rattle.ho_model.specs.declared.marks.EntryMark.{EntryMark}
 use Rattle.ho_model.specs.declared.marks.Tally.{Tally}
 use Rattle.ho_model.specs.Tallies.{no_tally, tally_next}
@@ -30,3 +31,7 @@ pub record IsQueueHistory (room : ℕ) (told : List Told) : Type 0 where
 pub record IsOfQueue (room : ℕ) (parts : List PartMade) (told : List Told) : Type 0 where
   pub has : HasParts parts told
   pub history : IsQueueHistory room told
+
+-- the entries of one with just these parts
+abbrev pub IsWoven : ℕ → List PartMade → List Entry → Type 0
+IsWoven room parts history = (told : List Told) × IsOfQueue room parts told × (history ≡ map entry_told told)

@@ -18,3 +18,6 @@ pub use made::Made;
 pub use parts::Part;
 pub use placed::weave_placed;
 pub use queue::weave_queue;
+
+#[cfg(test)]
+mod tests;

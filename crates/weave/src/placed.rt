@@ -36,17 +36,14 @@ fn part_with_place(cursors: &[Cursor<'_>], place: u64) -> Option<usize>
     cursors.iter().position(|cursor| begins(cursor, place))
 }
 
-/// The one history that has just these parts and places.
-///
-/// The parts are of different callers, and their receipts are places: of a history with just these
-/// parts, each call has the number of those before it.
+/// The one history that has just these parts and places, where there is one: where the parts are of
+/// different callers, and their receipts are the numbers below the count of calls, each once, rising
+/// within each part. Of other parts nothing is said.
 ///
 /// Each turn looks at the next call of each part: so the time goes with the calls times the callers.
 /// Takes memory for the history, and answers nothing but want of it.
 pub fn weave_placed(alloc: Global, parts: &[Part]) -> Result<History, NoMemory>
-    requires differ { OfDifferentCallers parts.now }
-    requires placed { (told : List Told) × IsPlaced parts.now told }
-    ensures { IfOk result (λ h. (told : List Told) → IsPlaced parts.now told → h ≡ map entry_told told) }
+    ensures { IfOk result (λ h. OfDifferentCallers parts.now → (told : List Told) → IsPlaced parts.now told → h ≡ map entry_told told) }
 {
     let mut cursors = whole_parts(alloc, parts)?;
     let mut entries = Vec::new(alloc);

@@ -1,7 +1,7 @@
 // A history of a queue by the receipts of its calls.
-ghost use Rattle.std.specs.Prelude.{◌≡◌, List, map, IfOk};
-ghost use Rattle.weave.specs.Parts.{entry_told, OfDifferentCallers, Told};
-ghost use Rattle.weave.specs.Queues.{IsOfQueue};
+ghost use Rattle.std.specs.Prelude.{◌≡◌, List, IfOk};
+ghost use Rattle.weave.specs.Parts.{OfDifferentCallers, Told};
+ghost use Rattle.weave.specs.Queues.{IsOfQueue, IsWoven};
 ghost use Rattle.weave.specs.Cursors.{parts_left, HasNext, TakesNext};
 ghost use Rattle.weave.specs.Aheads.{aheads_of};
 
@@ -31,11 +31,12 @@ fn take_turn(
     Ok(entry)
 }
 
-/// A legal history of a queue with so much room, which has just these parts and receipts.
+/// A legal history of a queue with so much room, which has just these parts and receipts, where there
+/// is one, and where the parts are of different callers. Of other parts nothing is said.
 ///
-/// The parts are of different callers, and such a history exists. This one takes, again and again,
-/// among the callers whose next call has no call left that goes before it, the least caller's next call.
-/// What goes before what is the relation of [`every_order_that_keeps_the_relation_is_legal`].
+/// It takes, again and again, among the callers whose next call has no call left that goes before it,
+/// the least caller's next call. What goes before what is the relation of
+/// [`every_order_that_keeps_the_relation_is_legal`].
 ///
 /// Each turn compares the next call of each part with the first call left of each kind in each part: so
 /// the time goes with the calls, and at worst with the square of the callers. Takes memory for the
@@ -43,9 +44,7 @@ fn take_turn(
 ///
 /// [`every_order_that_keeps_the_relation_is_legal`]: crate::every_order_that_keeps_the_relation_is_legal
 pub fn weave_queue(alloc: Global, room: u32, parts: &[Part]) -> Result<History, NoMemory>
-    requires differ { OfDifferentCallers parts.now }
-    requires queue { (told : List Told) × IsOfQueue room parts.now told }
-    ensures { IfOk result (λ h. (told : List Told) × IsOfQueue room parts.now told × (h ≡ map entry_told told)) }
+    ensures { IfOk result (λ h. OfDifferentCallers parts.now → (told : List Told) → IsOfQueue room parts.now told → IsWoven room parts.now h) }
 {
     let mut cursors = whole_parts(alloc, parts)?;
     let mut aheads = all_aheads(alloc, &cursors)?;

@@ -10,8 +10,8 @@ use Rattle.weave.proofs.queue.weave_queue.Goals as goal
 pub turns-init : goal.turns-init
 turns-init c =
     let is : c.in_ok-aheads.aheads.items ≡ aheads_of (parts_left c.in_ok-cursors.cursors.items) = search rules in (
-      subst (IsWeaving c.args.room c.args.parts.now (parts_left c.in_ok-cursors.cursors.items)) (sym c.new-entries.ensures.items)
-          (nothing_yet c.args.room c.args.parts.now (parts_left c.in_ok-cursors.cursors.items) c.in_ok-cursors.ensures c.requires.differ c.requires.queue.0 c.requires.queue.1),
+      λ differ told of_queue. subst (IsWeaving c.args.room c.args.parts.now (parts_left c.in_ok-cursors.cursors.items)) (sym c.new-entries.ensures.items)
+          (nothing_yet c.args.room c.args.parts.now (parts_left c.in_ok-cursors.cursors.items) c.in_ok-cursors.ensures differ told of_queue),
       is,
     )
 
@@ -29,15 +29,15 @@ turns-preserved c =
     let left = parts_left c.turns.cursors.items in let room = c.args.room in
     let least : IsLeast room c.turns.aheads.items left (length c.turns.cursors.items) (Some c.in-Some.least) = search rules in
     let goes = subst (λ (a : List Ahead). IsLeast room a left (length c.turns.cursors.items) (Some c.in-Some.least)) c.turns.invariant.1 least in (
-      subst (IsWeaving room c.args.parts.now (parts_left c.take_turn.new.cursors.items)) (sym c.in_ok-push.ensures.items)
-          (turn_taken room c.args.parts.now left c.turns.entries.items c.turns.invariant.0 c.in-Some.least.index goes.0 goes.1 goes.3 c.in_ok-entry.entry (parts_left c.take_turn.new.cursors.items) c.in_ok-entry.ensures.takes),
+      λ differ told of_queue. subst (IsWeaving room c.args.parts.now (parts_left c.take_turn.new.cursors.items)) (sym c.in_ok-push.ensures.items)
+          (turn_taken room c.args.parts.now left c.turns.entries.items (c.turns.invariant.0 differ told of_queue) c.in-Some.least.index goes.0 goes.1 goes.3 c.in_ok-entry.entry (parts_left c.take_turn.new.cursors.items) c.in_ok-entry.ensures.takes),
       c.in_ok-entry.ensures.ahead,
     )
 
 pub returns : goal.returns
-returns c =
+returns c = λ differ told of_queue.
     let cursors = c.turns.cursors.items in let left = parts_left cursors in let room = c.args.room in
     let least : IsLeast room c.turns.aheads.items left (length cursors) None = search rules in
     let stuck = subst (λ (a : List Ahead). IsLeast room a left (length cursors) None) c.turns.invariant.1 least in
-    let w = woven room c.args.parts.now left c.turns.entries.items c.turns.invariant.0 (length cursors) (sym (length-map cursors part_left)) stuck in
+    let w = woven room c.args.parts.now left c.turns.entries.items (c.turns.invariant.0 differ told of_queue) (length cursors) (sym (length-map cursors part_left)) stuck in
     (w.0, w.1, c.from_vec.ensures ∙ w.2)
