@@ -102,7 +102,7 @@ each_front P [] ys h = tt
 each_front P (x ∷ xs) ys h = (h.0, each_front P xs ys h.1)
 
 -- 4. The parts of a history
-part_at : (parts : List PartMade) (c : ℕ) → ((i : ℕ) × (p : PartMade) × (slice_get parts i ≡ Some p) × (p.caller ≡ c)) ⊎ ((i : ℕ) (p : PartMade) → slice_get parts i ≡ Some p → p.caller ≢ c)
+pub part_at : (parts : List PartMade) (c : ℕ) → ((i : ℕ) × (p : PartMade) × (slice_get parts i ≡ Some p) × (p.caller ≡ c)) ⊎ ((i : ℕ) (p : PartMade) → slice_get parts i ≡ Some p → p.caller ≢ c)
 part_at [] c = inr (λ i p at e. none-some p at)
 part_at (q ∷ parts) c = dite (ℕ_discrete q.caller c)
     (λ (is : q.caller ≡ c). inl (0, q, refl, is))

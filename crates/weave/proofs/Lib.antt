@@ -14,6 +14,8 @@ pub mod Orders
 pub mod Firsts
 -- The part whose turn it is.
 pub mod Choices
+-- The order that takes the least caller first.
+pub mod Chosen
 -- A history woven a turn at a time.
 pub mod Turns
 -- What is ahead of a part, once its first call is taken.

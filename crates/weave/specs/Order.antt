@@ -2,7 +2,8 @@
 use Rattle.std.specs.Prelude.{◌≡◌, ℕ, ◌+◌, ◌<◌, ◌≤◌, List, [], ◌∷◌}
 use Rattle.ho_base.specs.declared.receipts.Receipt.{Receipt}
 use Rattle.ho_base.specs.declared.receipts.Receipt.TheVariants.{Enqueued, Dequeued, Peeked, Looked}
-use Rattle.weave.specs.Parts.{Told}
+use Rattle.weave.specs.declared.made.Made.{Made}
+use Rattle.weave.specs.Parts.{Told, made_by}
 
 -- With so much room the first call goes before the second. Enqueues and takes go by their positions;
 -- an enqueue goes before the take and the peeks at its position, and a take before the enqueue that
@@ -35,3 +36,13 @@ NoneBefore room y xs = EachTold (λ x. GoesBefore room x y → ⊥) xs
 abbrev pub KeepsOrder : ℕ → List Told → Type 0
 KeepsOrder room [] = Unit {0}
 KeepsOrder room (x ∷ xs) = NoneBefore room x.made.receipt xs × KeepsOrder room xs
+
+-- of the callers whose next call has no call left that goes before it this is the least
+abbrev pub IsLeastCaller : ℕ → ℕ → List Told → Type 0
+IsLeastCaller room caller left = (c : ℕ) (m : Made) (ms : List Made) → made_by c left ≡ m ∷ ms → NoneBefore room m.receipt left → caller ≤ c
+
+-- each call, in turn, has no call left that goes before it, and is of the least caller of whose next call
+-- that is so
+abbrev pub IsChosen : ℕ → List Told → Type 0
+IsChosen room [] = Unit {0}
+IsChosen room (x ∷ xs) = NoneBefore room x.made.receipt xs × IsLeastCaller room x.caller (x ∷ xs) × IsChosen room xs

@@ -9,6 +9,7 @@ use Rattle.ho_model.specs.Tallies.{no_tally, tally_next}
 use Rattle.ho_model.specs.Histories.{IsLegal}
 use Rattle.ho_model.specs.QueueReceipts.{IsQueueReceipt}
 use Rattle.ho_model.specs.Written.{entry_of, history_of}
+use Rattle.weave.specs.Order.{IsChosen}
 use Rattle.weave.specs.Parts.{PartMade, Told, entry_told, HasParts}
 
 -- the mark of a call on a queue
@@ -32,6 +33,6 @@ pub record IsOfQueue (room : ℕ) (parts : List PartMade) (told : List Told) : T
   pub has : HasParts parts told
   pub history : IsQueueHistory room told
 
--- the entries of one with just these parts
+-- the entries of one with just these parts, in the order that takes the least caller first
 abbrev pub IsWoven : ℕ → List PartMade → List Entry → Type 0
-IsWoven room parts history = (told : List Told) × IsOfQueue room parts told × (history ≡ map entry_told told)
+IsWoven room parts history = (told : List Told) × IsOfQueue room parts told × IsChosen room told × (history ≡ map entry_told told)

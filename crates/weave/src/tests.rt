@@ -1,6 +1,6 @@
 use super::*;
 use ho_base::{NoMemory, Receipt};
-use ho_model::{replay, Call, Entry, History, Items, Object, Reply, Verdict};
+use ho_model::{Call, Entry, History, Items, Object, Reply, Verdict, replay};
 use std::alloc::Global;
 use std::test::Fail;
 

@@ -4,7 +4,7 @@ use Rattle.weave.specs.declared.aheads.Ahead.{Ahead}
 use Rattle.weave.specs.Cursors.{part_left, parts_left}
 use Rattle.weave.specs.Aheads.{aheads_of, IsLeast}
 use Rattle.weave.proofs.Lefts.{fewer_left}
-use Rattle.weave.proofs.Turns.{IsWeaving, nothing_yet, next_of, turn_taken, woven}
+use Rattle.weave.proofs.Turns.{IsWeaving, nothing_yet, next_of, turn, woven}
 use Rattle.weave.proofs.queue.weave_queue.Goals as goal
 
 pub turns-init : goal.turns-init
@@ -26,11 +26,12 @@ take_turn-requires-clause-next c =
 
 pub turns-preserved : goal.turns-preserved
 turns-preserved c =
-    let left = parts_left c.turns.cursors.items in let room = c.args.room in
-    let least : IsLeast room c.turns.aheads.items left (length c.turns.cursors.items) (Some c.in-Some.least) = search rules in
-    let goes = subst (λ (a : List Ahead). IsLeast room a left (length c.turns.cursors.items) (Some c.in-Some.least)) c.turns.invariant.1 least in (
-      λ differ told of_queue. subst (IsWeaving room c.args.parts.now (parts_left c.take_turn.new.cursors.items)) (sym c.in_ok-push.ensures.items)
-          (turn_taken room c.args.parts.now left c.turns.entries.items (c.turns.invariant.0 differ told of_queue) c.in-Some.least.index goes.0 goes.1 goes.3 c.in_ok-entry.entry (parts_left c.take_turn.new.cursors.items) c.in_ok-entry.ensures.takes),
+    let cursors = c.turns.cursors.items in let left = parts_left cursors in let room = c.args.room in
+    let new = parts_left c.take_turn.new.cursors.items in let best = c.in-Some.least in
+    let least : IsLeast room c.turns.aheads.items left (length cursors) (Some best) = search rules in
+    let goes = subst (λ (a : List Ahead). IsLeast room a left (length cursors) (Some best)) c.turns.invariant.1 least in (
+      λ differ told of_queue. subst (IsWeaving room c.args.parts.now new) (sym c.in_ok-push.ensures.items)
+          (turn room c.args.parts.now left c.turns.entries.items (c.turns.invariant.0 differ told of_queue) (length cursors) (sym (length-map cursors part_left)) best goes c.in_ok-entry.entry new c.in_ok-entry.ensures.takes),
       c.in_ok-entry.ensures.ahead,
     )
 
@@ -40,4 +41,4 @@ returns c = λ differ told of_queue.
     let least : IsLeast room c.turns.aheads.items left (length cursors) None = search rules in
     let stuck = subst (λ (a : List Ahead). IsLeast room a left (length cursors) None) c.turns.invariant.1 least in
     let w = woven room c.args.parts.now left c.turns.entries.items (c.turns.invariant.0 differ told of_queue) (length cursors) (sym (length-map cursors part_left)) stuck in
-    (w.0, w.1, c.from_vec.ensures ∙ w.2)
+    (w.0, w.1, w.2, c.from_vec.ensures ∙ w.3)
