@@ -136,7 +136,7 @@ get_set_same [] i x y h = absurd (none-some y h)
 get_set_same (z ∷ xs) zero x y h = refl
 get_set_same (z ∷ xs) (suc i) x y h = get_set_same xs i x y h
 
-get_set_other : {A : Type 0} (xs : List A) (i k : ℕ) (x : A) → k ≢ i → slice_get (set xs i x) k ≡ slice_get xs k
+pub get_set_other : {A : Type 0} (xs : List A) (i k : ℕ) (x : A) → k ≢ i → slice_get (set xs i x) k ≡ slice_get xs k
 get_set_other [] i k x ne = refl
 get_set_other (y ∷ xs) zero zero x ne = absurd (ne refl)
 get_set_other (y ∷ xs) zero (suc k) x ne = refl
@@ -154,7 +154,7 @@ module _ (parts : List PartMade) (i c : ℕ) (m : Made) (ms : List Made) (at : s
   fewer = set parts i after
 
   -- a part then is the shorter one, or was one before
-  one_then : (k : ℕ) (p : PartMade) → slice_get fewer k ≡ Some p → ((k ≡ i) × (p ≡ after)) ⊎ ((k ≢ i) × (slice_get parts k ≡ Some p))
+  pub one_then : (k : ℕ) (p : PartMade) → slice_get fewer k ≡ Some p → ((k ≡ i) × (p ≡ after)) ⊎ ((k ≢ i) × (slice_get parts k ≡ Some p))
   one_then k p is = dite (ℕ_discrete k i)
       (λ (e : k ≡ i). inl (e, same_Some p after (sym is ∙ (ap (slice_get fewer) e ∙ get_set_same parts i after before at))))
       (λ (ne : k ≢ i). inr (ne, sym (get_set_other parts i k after ne) ∙ is))

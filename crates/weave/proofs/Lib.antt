@@ -4,6 +4,8 @@ pub mod CallsByCaller
 pub mod Lefts
 -- Histories by their places.
 pub mod ByPlace
+-- Parts whose receipts are places, each once, have a history.
+pub mod AllPlaces
 -- Calls that may change places, by the counts that their receipts name.
 pub mod Swaps
 -- What a queue replies, by the items that were enqueued in all.

@@ -3,10 +3,16 @@ use Rattle.std.proofs.Common.{◌≡◌, ◌≢◌, ℕ, ◌≤◌, List, [], �
 use mathlib.Core.Logic.{dite}
 use native.Mathlib.Decide.{ℕ_discrete}
 use Rattle.ho_base.specs.declared.receipts.Receipt.{Receipt}
+use Rattle.ho_base.specs.declared.receipts.Receipt.TheVariants.{Place, Enqueued, Dequeued, Peeked, Looked}
+use Rattle.ho_model.specs.declared.marks.CallMark.TheVariants.{Enq, Deq, Peek}
+use Rattle.ho_model.specs.declared.marks.ReplyMark.TheVariants.{Done, Item}
+use Rattle.ho_model.specs.declared.objects.Object.TheVariants.{Queue}
+use Rattle.ho_model.specs.Written.{history_of}
+use Rattle.ho_model.proofs.QueueLaws.{legal_by_replies}
 use Rattle.weave.specs.Parts.{Told, made_by}
 use Rattle.weave.specs.Order.{GoesBefore, EachTold, NoneBefore, KeepsOrder}
 use Rattle.weave.specs.Queues.{IsQueueHistory}
-use Rattle.weave.specs.Laws.{LaterDoNotGoBefore, CallsPullForward, OrdersAreHistories}
+use Rattle.weave.specs.Laws.{LaterDoNotGoBefore, CallsPullForward, OrdersAreHistories, FirstLengthsAllowAlike, SegmentsMayBeAny}
 use Rattle.weave.proofs.CallsByCaller.{EachMade, each_made, each_told, each_front, first_of, made_own, made_other}
 use Rattle.weave.proofs.Swaps.{takes_then, enqueues_then, AllFit, MayNot, may_go, steps, first_free, pull_behind}
 use Rattle.weave.proofs.Replies.{fit_and_agree, is_history, agree_pulled}
@@ -56,3 +62,18 @@ orders room before told (y ∷ other) h same keeps =
 
 pub orders_are_histories : OrdersAreHistories
 orders_are_histories room told other h same keeps = orders room [] told other h same keeps
+
+-- 4. The first segment's length
+pub first_lengths_allow_alike : FirstLengthsAllowAlike
+first_lengths_allow_alike priority room a b history legal =
+    let entries = history_of (Queue room a) history in (legal_by_replies priority room b entries).1 ((legal_by_replies priority room a entries).0 legal)
+
+pub segments_may_be_any : SegmentsMayBeAny
+segments_may_be_any first_len (Enq x) Done t (Enqueued p s) is = (is.0, omega arith)
+segments_may_be_any first_len (Enq x) Done t (Place k) is = is
+segments_may_be_any first_len (Enq x) Done t (Dequeued p) is = is
+segments_may_be_any first_len (Enq x) Done t (Peeked p) is = is
+segments_may_be_any first_len (Enq x) Done t (Looked head tail) is = is
+segments_may_be_any first_len Deq (Item x) t r is = is
+segments_may_be_any first_len Peek (Item x) t r is = is
+segments_may_be_any first_len call reply t r is = is

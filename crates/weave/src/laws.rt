@@ -1,6 +1,7 @@
 // The laws of the order in which a queue's calls stand. The functions have no code; their contracts are
 // proved of the definitions.
-ghost use Rattle.weave.specs.Laws.{CallsPullForward, LaterDoNotGoBefore, OrdersAreHistories};
+ghost use Rattle.weave.specs.Places.{PlacesMakeHistories};
+ghost use Rattle.weave.specs.Laws.{CallsPullForward, FirstLengthsAllowAlike, LaterDoNotGoBefore, OrdersAreHistories, SegmentsMayBeAny};
 
 /// No call of a queue's legal history goes before one that stands earlier, by the receipts of both.
 pub fn a_history_keeps_the_order()
@@ -17,4 +18,18 @@ pub fn a_call_may_stand_earlier()
 /// as they did, and in which none goes before an earlier one.
 pub fn every_order_that_keeps_the_relation_is_legal()
     ensures { OrdersAreHistories }
+{}
+
+/// What is legal for a queue does not depend on the length of its first segment, and a receipt of a call
+/// on a queue with some such length is one whose segment may be any. So the condition of
+/// [`weave_queue`](crate::weave_queue) is met by a history of any queue with this room.
+pub fn a_first_length_changes_no_history()
+    ensures legal { FirstLengthsAllowAlike }
+    ensures receipts { SegmentsMayBeAny }
+{}
+
+/// Parts of different callers, whose receipts are the places below a number, each once, rising within each
+/// part, have a history at these places.
+pub fn places_below_a_number_make_a_history()
+    ensures { PlacesMakeHistories }
 {}

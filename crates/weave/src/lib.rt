@@ -6,7 +6,8 @@
 //! calls stand in it in their order, and no others.
 //!
 //! [`weave_placed`] takes receipts that are places, the number of calls before each, as every object
-//! behind a turn gives them. There is one such history, and that is the answer. [`weave_queue`] takes the
+//! behind a turn gives them. There is one such history
+//! ([`places_below_a_number_make_a_history`]), and that is the answer. [`weave_queue`] takes the
 //! receipts of a queue, which tell how many items were enqueued and taken before a call. Many histories
 //! may have these; the answer is legal, and the one that `IsChosen` of `specs/Order.antt` tells, which
 //! takes the least caller first. That file also says which of two calls goes before the other, and the
@@ -15,7 +16,7 @@
 //! [`every_order_that_keeps_the_relation_is_legal`].
 //!
 //! An enqueue's receipt also has the number of a segment, which no history tells: it is compared with
-//! nothing, and each call keeps its own.
+//! nothing, as [`a_first_length_changes_no_history`] says, and each call keeps its own.
 //!
 //! The crate stands on `ho_base` for receipts and on `ho_model` for histories, for what is legal, and for
 //! the receipt that each call on a queue has. It promises upward the contracts of the two functions
@@ -34,8 +35,8 @@ mod placed;
 mod queue;
 
 pub use laws::{
-    a_call_may_stand_earlier, a_history_keeps_the_order,
-    every_order_that_keeps_the_relation_is_legal,
+    a_call_may_stand_earlier, a_first_length_changes_no_history, a_history_keeps_the_order,
+    every_order_that_keeps_the_relation_is_legal, places_below_a_number_make_a_history,
 };
 pub use made::Made;
 pub use parts::Part;

@@ -1,3 +1,5 @@
+ghost use Rattle.std.specs.Prelude.{◌≡◌};
+
 use super::*;
 use ho_base::{NoMemory, Receipt};
 use ho_model::{Call, Entry, History, Items, Object, Reply, Verdict, replay};
@@ -242,5 +244,22 @@ fn many_calls_of_many_callers(rt: HostRuntime) -> Result<(), Fail> {
     let history = weave_queue(alloc, ROOM as u32, &parts)?;
     assert_eq!(rt; history.entries().len(), STEPS as usize);
     assert_eq!(rt; verdict(alloc, ROOM as u32, &history)?, Verdict::Legal);
+    Ok(())
+}
+
+// What a thread can hand to another.
+fn sent<T: Send>(value: T) -> T
+    ensures { result ≡ value }
+{
+    value
+}
+
+#[test]
+fn a_thread_may_hand_on_its_part(rt: HostRuntime) -> Result<(), Fail> {
+    let alloc = rt.alloc();
+    let mut part = Part::new(alloc, 0);
+    part.push(placed(6, 0))?;
+    let history = weave_placed(alloc, &[sent(part)])?;
+    assert_eq!(rt; history.entries().len(), 1);
     Ok(())
 }
