@@ -1,1 +1,3 @@
 pub mod Behind
+pub mod Carrying
+pub mod Staying

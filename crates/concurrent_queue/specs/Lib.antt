@@ -3,6 +3,8 @@ pub mod Kept
 pub mod Passes
 pub mod Telling
 pub mod Queues
+pub mod Segments
+pub mod Tries
 -- what the clauses of the public calls cite from below
 pub use Rattle.ho_base.specs.Marks
 pub use Rattle.ho_model.specs.Entries
@@ -15,3 +17,4 @@ pub use Rattle.passes.specs.Numbers
 pub use Rattle.passes.specs.Views as PassViews
 pub use Rattle.passes.specs.Calls as PassCalls
 pub use Rattle.passes.specs.Repeats
+pub use Rattle.queue_tries.specs.Causes

@@ -15,7 +15,7 @@ use Rattle.ho_model.specs.declared.marks.EntryMark.{EntryMark}
 use Rattle.ho_model.specs.Entries.{entry}
 use Rattle.ho_model.specs.Tallies.{tally_of}
 use Rattle.passes.specs.Repeats.{EndsByEntry}
-use Rattle.concurrent_queue.specs.Passes.{QueueView}
+use Rattle.concurrent_queue.specs.Passes.{TurnQueueView}
 use Rattle.concurrent_queue.specs.Kept.{state_of, may_want}
 
 abbrev pub told_mark : QueueReply × Tally → ReplyMark
@@ -32,7 +32,7 @@ IsEmptyQueue room first_len q =
 
 -- A call was answered by this reply, with the counts of the entries before its own; or it is one that may
 -- want memory.
-abbrev pub Told : QueueView → QueueCall → QueueView → Result ((QueueReply × Tally) × Receipt) (Unpaid QueueCall) → Type 0
+abbrev pub Told : TurnQueueView → QueueCall → TurnQueueView → Result ((QueueReply × Tally) × Receipt) (Unpaid QueueCall) → Type 0
 Told p call q (Ok (told, place)) =
     (before : List EntryMark) × EndsByEntry number_priority p.pass before (entry p.pass.caller (call_mark call) (told_mark told)) q.pass × tells (tally_of before) call told × (q.window ≡ p.window)
 Told p call q (Err unpaid) = may_want p.pass.object (call_mark call) ≡ true

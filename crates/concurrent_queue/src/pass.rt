@@ -3,7 +3,6 @@ ghost use Rattle.std.specs.Prelude.{◌≡◌, ◌<◌, ◌+◌};
 ghost use Rattle.passes.specs.Numbers.{held_count};
 
 use std::marker::Model;
-use turn_lock::Pass;
 
 /// The right to call a shared queue under a number, and what its owner has seen of the queue.
 ///
@@ -13,15 +12,18 @@ use turn_lock::Pass;
 /// move to another thread. One that is dropped keeps its numbers for good.
 #[derive(Drop)]
 pub struct QueuePass {
-    pub(crate) pass: Pass,
+    pub(crate) pass: seg_rule::QueuePass,
 }
 
 impl Model for QueuePass {
-    ghost use Rattle.concurrent_queue.specs.Passes.{QueueView, queue_view};
+    ghost use Rattle.concurrent_queue.specs.Passes.{QueueView};
+    ghost use Rattle.concurrent_queue.specs.Segments.{queue_view, IsBetween};
 
     ghost Value = { QueueView };
 
     ghost view = { λ p. queue_view p.pass };
+
+    ghost invariant = { λ p. IsBetween p.pass };
 }
 
 impl QueuePass {

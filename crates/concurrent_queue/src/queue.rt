@@ -1,76 +1,39 @@
 // The queue that callers share.
-ghost use Rattle.std.specs.Prelude.{◌≡◌, ◌<◌, ◌≤◌, ◌∷◌, [], ◌↔◌, IfOk, Err, IsTrue};
-ghost use Rattle.ho_base.specs.declared.receipts.Receipt.TheVariants.{Enqueued, Looked};
-ghost use Rattle.concurrent_queue.specs.Queues.{IsFirstLength};
+ghost use Rattle.std.specs.Prelude.{◌≡◌, ◌<◌, ◌≤◌, ◌∷◌, [], ◌↔◌, IfOk, Err};
 
-use crate::calls::{QueueCall, QueueReply};
 use crate::pass::QueuePass;
-use crate::telling::TellingQueue;
-use ho_base::{Receipt, Unpaid};
-use ho_model::Tally;
+use crate::refusals::{QueueRefused, is_bad_room, is_first_length, is_too_large};
+use crate::segments;
+use ho_base::Receipt;
+use queue_tries::{DequeueReply, EnqueueReply, QueueOnce};
+use seg_rule::QueueTable;
 use std::alloc::Global;
 use std::marker::Model;
 use std::sync::Wait;
-use turn_lock::Shared;
-
-/// Why no queue was made.
-#[derive(Clone, Copy, Debug, PartialEq, Eq)]
-pub enum QueueRefused {
-    /// The room is 0, or above 65,536.
-    BadRoom,
-    /// The length of a first segment is not a power of two from 2 to 1,024.
-    BadLength,
-    /// The segments for so much room and so many callers have too many slots. A queue behind a turn
-    /// has none, and is never refused so.
-    TooLarge,
-    /// There was not the memory for its room.
-    NoMemory,
-}
-
-/// What an enqueue comes to.
-#[derive(Clone, Copy, Debug, PartialEq, Eq)]
-pub enum EnqueueReply {
-    /// The item stands last.
-    Done,
-    /// There are as many items as there is room for.
-    Full,
-}
-
-/// What a dequeue or a peek comes to.
-#[derive(Clone, Copy, Debug, PartialEq, Eq)]
-pub enum DequeueReply {
-    /// The first item.
-    Item(u64),
-    /// There is no item.
-    Empty,
-}
-
-/// The most items that a queue has room for.
-const MOST_ROOM: u32 = 65_536;
-
-/// The longest first segment.
-const LONGEST_FIRST: u32 = 1_024;
 
 /// A first-in first-out queue of numbers that up to 64 callers share, with room for so many items,
 /// after .NET's `ConcurrentQueue<T>`. Contracts see its identity, its room and the length of a first
 /// segment.
 ///
-/// A call waits for the others that call, and for nothing else: never for room, nor for an item. It asks
-/// that its pass has no window open, as no pass has yet. As the queue is built, a caller whose count is
-/// 2^48 waits for good: no contract speaks of that.
+/// Items are stored in segments (`docs/QUEUE.md`). An enqueue of an open segment and a dequeue of a published
+/// item take no lock. A call waits for others only while they open a segment, count, or have enqueued the
+/// first item and not put it into its slot yet: never for room, nor for an item. It asks that its pass has no
+/// window open, as no pass has yet. A caller makes at most 2^48 calls: one more waits for good, or is `Spent`.
+///
+/// Each call has a form that tries once, and waits for nobody. Its answer counts one call of the caller, and
+/// an `Again` at most one.
 #[derive(Drop)]
 pub struct ConcurrentQueue {
-    shared: Shared<TellingQueue>,
-    room: u32,
-    first_len: u32,
+    table: QueueTable,
 }
 
 impl Model for ConcurrentQueue {
     ghost use Rattle.concurrent_queue.specs.Queues.{QueueId};
+    ghost use Rattle.concurrent_queue.specs.Segments.{id_of};
 
     ghost Value = { QueueId };
 
-    ghost view = { λ q. record { table = q.shared; room = q.room; first_len = q.first_len } };
+    ghost view = { λ q. id_of q.table };
 }
 
 impl ConcurrentQueue {
@@ -78,14 +41,15 @@ impl ConcurrentQueue {
     ghost use Rattle.ho_model.specs.declared.marks.CallMark.TheVariants as callmark;
     ghost use Rattle.ho_model.specs.declared.marks.ReplyMark.TheVariants.{Counted};
     ghost use Rattle.passes.specs.Numbers.{held_count};
+    ghost use Rattle.queue_tries.specs.Tries.{enqueue_mark, dequeue_mark};
     ghost use Rattle.concurrent_queue.specs.Passes.{Answers, SplitsQueue, JoinsQueue};
-    ghost use Rattle.concurrent_queue.specs.Queues.{IsBadRoom, IsFirstLength, IsOf, first_of, enqueue_mark, dequeue_mark};
-    ghost use Rattle.concurrent_queue.specs.Telling.{Told};
-    ghost use Rattle.concurrent_queue.specs.declared.queue.QueueRefused.TheVariants.{BadRoom, BadLength, TooLarge};
+    ghost use Rattle.concurrent_queue.specs.Queues.{IsBadRoom, IsFirstLength, IsTooLarge, IsOf, first_of};
+    ghost use Rattle.concurrent_queue.specs.Tries.{EnqueuesOnce, DequeuesOnce, PeeksOnce, CountsOnce};
+    ghost use Rattle.concurrent_queue.specs.declared.refusals.QueueRefused.TheVariants.{BadRoom, BadLength, TooLarge};
 
     /// A queue without items for 1 to 64 callers, with room for 1 to 65,536 items, and the first
-    /// pass, which holds all numbers. It takes all its memory here. A bad room is refused before a bad
-    /// length.
+    /// pass, which holds all numbers. It takes all its memory here, and for a moment twice as much. A bad
+    /// room is refused before a bad length, and that before a queue that is too large.
     pub fn new(
         alloc: Global,
         room: u32,
@@ -97,26 +61,20 @@ impl ConcurrentQueue {
             × (made.1 ≡ first_of made.0 callers)) }
         ensures bad_room { (result ≡ Err BadRoom) ↔ IsBadRoom room }
         ensures bad_length { (result ≡ Err BadLength) ↔ ((¬ IsBadRoom room) × (¬ IsFirstLength first_len)) }
-        ensures too_large { ¬ (result ≡ Err TooLarge) }
+        ensures too_large { (result ≡ Err TooLarge) ↔ ((¬ IsBadRoom room) × IsFirstLength first_len
+            × IsTooLarge room first_len callers) }
     {
-        if room == 0 || room > MOST_ROOM {
+        if is_bad_room(room) {
             return Err(QueueRefused::BadRoom);
         }
         if !is_first_length(first_len) {
             return Err(QueueRefused::BadLength);
         }
-        let Ok(queue) = TellingQueue::new(alloc, room, first_len) else {
-            return Err(QueueRefused::NoMemory);
-        };
-        match Shared::new(alloc, queue, callers) {
-            Ok((shared, pass)) => {
-                let queue = ConcurrentQueue {
-                    shared,
-                    room,
-                    first_len,
-                };
-                Ok((queue, QueuePass { pass }))
-            }
+        if is_too_large(room, first_len, callers) {
+            return Err(QueueRefused::TooLarge);
+        }
+        match segments::new(alloc, room, first_len, callers) {
+            Ok((table, pass)) => Ok((ConcurrentQueue { table }, QueuePass { pass })),
             Err(_) => Err(QueueRefused::NoMemory),
         }
     }
@@ -130,7 +88,7 @@ impl ConcurrentQueue {
         ensures { SplitsQueue pass.old pass.new result }
     {
         QueuePass {
-            pass: self.shared.split(&mut pass.pass),
+            pass: segments::split(&self.table, &mut pass.pass),
         }
     }
 
@@ -143,14 +101,14 @@ impl ConcurrentQueue {
         ensures { JoinsQueue pass.old other pass.new }
     {
         let QueuePass { pass: other } = other;
-        self.shared.join(&mut pass.pass, other)
+        segments::join(&self.table, &mut pass.pass, other)
     }
 
     /// How many items there is room for.
     pub fn room(&self) -> u32
         ensures { result ≡ self.now.room }
     {
-        self.room
+        self.table.form().room
     }
 
     /// Puts an item last, if there is room (`Enqueue`). Takes no memory.
@@ -166,11 +124,16 @@ impl ConcurrentQueue {
         ensures { Answers self.now.first_len pass.old
             (entry pass.old.pass.caller (callmark.Enq (value ∷ [])) (enqueue_mark result.0)) result.1 pass.new }
     {
-        match self.call(rt, pass, QueueCall::Enqueue(value)) {
-            Ok(((QueueReply::Done, tally), _)) => (EnqueueReply::Done, enqueued(tally)),
-            Ok(((QueueReply::Full, tally), _)) => (EnqueueReply::Full, looked(tally)),
-            _ => unreachable!(),
-        }
+        segments::enqueue(rt, &self.table, &mut pass.pass, value)
+    }
+
+    /// Tries to put an item last once: it makes no second try where another caller was first or has the
+    /// turn, or where no place is free for a segment. Takes no memory.
+    pub fn enqueue_once(&self, pass: &mut QueuePass, value: u64) -> QueueOnce<EnqueueReply>
+        requires { IsOf self.now pass.old }
+        ensures { EnqueuesOnce pass.old pass.new self.now.first_len value result }
+    {
+        segments::enqueue_once(&self.table, &mut pass.pass, value)
     }
 
     /// Takes the first item, if there is one (`TryDequeue`). Takes no memory.
@@ -181,18 +144,16 @@ impl ConcurrentQueue {
         ensures { Answers self.now.first_len pass.old
             (entry pass.old.pass.caller callmark.Deq (dequeue_mark result.0)) result.1 pass.new }
     {
-        match self.call(rt, pass, QueueCall::Dequeue) {
-            Ok(((QueueReply::Item(item), tally), _)) => {
-                (
-                    DequeueReply::Item(item),
-                    Receipt::Dequeued {
-                        position: tally.taken,
-                    },
-                )
-            }
-            Ok(((QueueReply::Empty, tally), _)) => (DequeueReply::Empty, looked(tally)),
-            _ => unreachable!(),
-        }
+        segments::dequeue(rt, &self.table, &mut pass.pass)
+    }
+
+    /// Tries to take the first item once: it makes no second try where another caller was first or has the
+    /// turn, or has not put the first item into its slot yet. Takes no memory.
+    pub fn dequeue_once(&self, pass: &mut QueuePass) -> QueueOnce<DequeueReply>
+        requires { IsOf self.now pass.old }
+        ensures { DequeuesOnce pass.old pass.new self.now.first_len result }
+    {
+        segments::dequeue_once(&self.table, &mut pass.pass)
     }
 
     /// Shows the first item, if there is one (`TryPeek`). Takes no memory.
@@ -203,18 +164,15 @@ impl ConcurrentQueue {
         ensures { Answers self.now.first_len pass.old
             (entry pass.old.pass.caller callmark.Peek (dequeue_mark result.0)) result.1 pass.new }
     {
-        match self.call(rt, pass, QueueCall::Peek) {
-            Ok(((QueueReply::Item(item), tally), _)) => {
-                (
-                    DequeueReply::Item(item),
-                    Receipt::Peeked {
-                        position: tally.taken,
-                    },
-                )
-            }
-            Ok(((QueueReply::Empty, tally), _)) => (DequeueReply::Empty, looked(tally)),
-            _ => unreachable!(),
-        }
+        segments::peek(rt, &self.table, &mut pass.pass)
+    }
+
+    /// Tries to show the first item once, as [`ConcurrentQueue::dequeue_once`] takes it. Takes no memory.
+    pub fn peek_once(&self, pass: &mut QueuePass) -> QueueOnce<DequeueReply>
+        requires { IsOf self.now pass.old }
+        ensures { PeeksOnce pass.old pass.new self.now.first_len result }
+    {
+        segments::peek_once(&self.table, &mut pass.pass)
     }
 
     /// Counts the items (`Count`). Takes no memory. The receipt is `Looked`.
@@ -223,49 +181,15 @@ impl ConcurrentQueue {
         ensures { Answers self.now.first_len pass.old
             (entry pass.old.pass.caller callmark.Count (Counted result.0)) result.1 pass.new }
     {
-        match self.call(rt, pass, QueueCall::Count) {
-            Ok(((QueueReply::Count(count), tally), _)) => (count, looked(tally)),
-            _ => unreachable!(),
-        }
+        segments::count(rt, &self.table, &mut pass.pass)
     }
 
-    /// Waits for the turn, and makes the call. Only a snapshot can come back for want of memory.
-    fn call<R: Wait>(
-        &self,
-        rt: &R,
-        pass: &mut QueuePass,
-        call: QueueCall,
-    ) -> Result<((QueueReply, Tally), Receipt), Unpaid<QueueCall>>
+    /// Tries to count the items once: it makes no second try where another caller has the turn, or
+    /// enqueued meanwhile. Takes no memory.
+    pub fn count_once(&self, pass: &mut QueuePass) -> QueueOnce<u64>
         requires { IsOf self.now pass.old }
-        ensures { Told pass.old call pass.new result }
+        ensures { CountsOnce pass.old pass.new self.now.first_len result }
     {
-        self.shared.call(rt, &mut pass.pass, call)
-    }
-}
-
-/// Whether a first segment can have this length.
-fn is_first_length(length: u32) -> bool
-    ensures { IsTrue result ↔ IsFirstLength length }
-{
-    2 <= length && length <= LONGEST_FIRST && length.is_power_of_two()
-}
-
-/// The receipt of an item that was enqueued. Behind a turn all items lie in the first segment.
-fn enqueued(tally: Tally) -> Receipt
-    ensures { result ≡ Enqueued tally.enqueued 0 }
-{
-    Receipt::Enqueued {
-        position: tally.enqueued,
-        segment: 0,
-    }
-}
-
-/// The receipt of a call that only looked.
-fn looked(tally: Tally) -> Receipt
-    ensures { result ≡ Looked tally.taken tally.enqueued }
-{
-    Receipt::Looked {
-        head: tally.taken,
-        tail: tally.enqueued,
+        segments::count_once(&self.table, &mut pass.pass)
     }
 }

@@ -38,7 +38,7 @@ without_obstacles p = record { table = p.table; object = p.object; callers = p.c
 -- what contracts see of the pass, whichever object it is of
 abbrev pub pass_of : DrivenPass → LockPass
 pass_of (Turn p) = p
-pass_of (Queue p) = p.pass
+pass_of (Queue p) = without_obstacles p.pass
 pass_of (Bag p) = without_obstacles p
 
 -- the pass is of this object, and of its kind

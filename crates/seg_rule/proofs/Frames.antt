@@ -15,7 +15,7 @@ use Rattle.seg_rule.specs.Slots.{free, full, Cell, up, holder, SlotOk}
 use Rattle.seg_rule.specs.Places.{Cells, HomeOk, SlotsOk, put_at}
 use Rattle.seg_rule.specs.declared.form.Form.{Form}
 use Rattle.seg_rule.specs.Rule.{Ghosts, Words, Views, ViewOk, Kept, Rule, StraysOk, paid_of, takes_in, watches}
-use Rattle.seg_rule.specs.Rely.{IsLate, Rely}
+use Rattle.seg_rule.specs.Rely.{IsLate, StaysIn, Rely}
 use Rattle.seg_rule.proofs.Words.{written}
 use Rattle.seg_rule.proofs.Places.{at_here, at_else, at_cases}
 use Rattle.seg_rule.proofs.Slots.{slot_stays}
@@ -95,8 +95,8 @@ module _ (g : Ghosts) (q i : ℕ) (c : Cell) where
   pub put_full : (P : Type 0) → (g.cells q i ≡ (g.taken, full) → P) → (q' i' k : ℕ) → g.low ≤ k → g.cells q' i' ≡ (g.taken, full) → P ⊎ ((g.low ≤ k) × (after q' i' ≡ (g.taken, full)))
   put_full P never q' i' k l = each_slot g.cells q i c (λ a b d. g.cells a b ≡ (g.taken, full) → P ⊎ ((g.low ≤ k) × (d ≡ (g.taken, full)))) (λ e. inl (never e)) (λ a b n e. inr (l, e)) q' i'
 
-  pub put_kept : ((k : ℕ) → g.home q ≡ suc k → g.bar k ≤ (g.cells q i).0 → c.0 ≡ (g.cells q i).0) → (q' i' k : ℕ) → g.home q' ≡ suc k → g.bar k ≤ (g.cells q' i').0 → (after q' i').0 ≡ (g.cells q' i').0
-  put_kept same q' i' k = each_slot g.cells q i c (λ a b d. g.home a ≡ suc k → g.bar k ≤ (g.cells a b).0 → d.0 ≡ (g.cells a b).0) (same k) (λ a b n e l. refl) q' i'
+  pub put_kept : ((k : ℕ) → g.home q ≡ suc k → g.bar k ≤ (g.cells q i).0 → StaysIn (g.cells q i) c) → (q' i' k : ℕ) → g.home q' ≡ suc k → g.bar k ≤ (g.cells q' i').0 → StaysIn (g.cells q' i') (after q' i')
+  put_kept same q' i' k = each_slot g.cells q i c (λ a b d. g.home a ≡ suc k → g.bar k ≤ (g.cells a b).0 → StaysIn (g.cells a b) d) (same k) (λ a b n e l. (refl, le_refl _)) q' i'
 
   pub put_held : (id j : ℕ) → j ≢ id → Loose id (g.cells q i) → (q' i' : ℕ) → holder (g.cells q' i').1 ≡ suc j → after q' i' ≡ g.cells q' i'
   put_held id j other loose q' i' = each_slot g.cells q i c (λ a b d. holder (g.cells a b).1 ≡ suc j → d ≡ g.cells a b) (λ e. absurd (loose j other e)) (λ a b n e. refl) q' i'

@@ -23,7 +23,7 @@ use Rattle.seg_rule.specs.Slots.{full, reading, Cell, up, holder, SlotOk}
 use Rattle.seg_rule.specs.Places.{HomeOk, put_at, put_in}
 use Rattle.seg_rule.specs.declared.form.Form.{Form}
 use Rattle.seg_rule.specs.Rule.{Ghosts, IsWhole, FrontSeen, FrontFact, InHand, StageOk, ViewOk, DonesOk, passed, Words, Kept, takes_at, flag, paid_of, OutOfChain}
-use Rattle.seg_rule.specs.Rely.{Grows, Rely}
+use Rattle.seg_rule.specs.Rely.{StaysIn, Grows, Rely}
 use Rattle.seg_rule.specs.Steps.{count_made, MayCount, entered, front_of, MayTake, Takes}
 use Rattle.seg_rule.proofs.Chains.{rises, more_taken}
 use Rattle.seg_rule.proofs.Places.{at_here}
@@ -156,7 +156,7 @@ module _ (f : Form) (m : Memory) (views : List View) (id : ℕ) (v : View) (k : 
         bar_up = λ a. le_refl _;
         free_stays = λ a b s. put_free g q i c (g.put < g.put) (λ z. absurd (let u : 1 ≡ 0 = sym (ap (λ (y : Cell). up y.1) is) ∙ ap (λ (y : Cell). up y.1) z in omega arith)) a b s;
         full_stays = λ a b o l l' s t r. inl (le_refl _);
-        kept = λ a b o s p l. put_kept g q i c (λ o z r. sym (ap (λ (y : Cell). y.0) is)) a b o s;
+        kept = λ a b o s p l. put_kept g q i c (λ o z r. subst (λ (y : Cell). StaysIn y c) (sym is) (refl, le_refl _)) a b o s;
       }
 
       own : (g.owner v.caller ≡ id) × (v.caller < f.callers)

@@ -13,7 +13,7 @@ use Rattle.seg_rule.specs.Slots.{writing, stored, full, Cell, holder, SlotOk}
 use Rattle.seg_rule.specs.Places.{Cells, put_at}
 use Rattle.seg_rule.specs.declared.form.Form.{Form}
 use Rattle.seg_rule.specs.Rule.{Ghosts, IsWhole, HandOk, InHand, ViewOk, Words, Kept, takes_at}
-use Rattle.seg_rule.specs.Rely.{Grows, SameTurn, Rely}
+use Rattle.seg_rule.specs.Rely.{StaysIn, Grows, SameTurn, Rely}
 use Rattle.seg_rule.specs.Steps.{in_hand}
 use Rattle.seg_rule.proofs.Places.{at_here, at_else}
 use Rattle.seg_rule.proofs.Stays.{notes_stay, window_fact_stays}
@@ -34,7 +34,7 @@ module _ (f : Form) (m : Memory) (views : List View) (id : ℕ) (v : View) (k : 
   active = HasNumber v.held v.caller
 
   -- the one cell that the seat holds goes on, and nothing else
-  module _ (q i : ℕ) (c : Cell) (w : Hand) (had : holder (g.cells q i).1 ≡ suc id) (loose : Loose id c) (same : (n : ℕ) → g.home q ≡ suc n → g.bar n ≤ (g.cells q i).0 → c.0 ≡ (g.cells q i).0) where
+  module _ (q i : ℕ) (c : Cell) (w : Hand) (had : holder (g.cells q i).1 ≡ suc id) (loose : Loose id c) (same : (n : ℕ) → g.home q ≡ suc n → g.bar n ≤ (g.cells q i).0 → StaysIn (g.cells q i) c) where
     abbrev g' : Ghosts
     g' = record g { cells = put_at g.cells q i c }
 
@@ -98,7 +98,7 @@ module _ (f : Form) (m : Memory) (views : List View) (id : ℕ) (v : View) (k : 
       let item' : ℕ → ℕ → ℕ = put_at (λ a b. m (Item a b)) q i x in
       let number : (n : ℕ) → g.home q ≡ suc n → g.prep ≢ suc q → i < (g.segs n).len → SlotOk (g.segs n).len g.values g.taken (g.segs n).start (end_of g.segs g.last g.put n) (m (Number q i)) (m (Item q i)) i (p, writing id)
       = λ n a b l. subst (SlotOk (g.segs n).len g.values g.taken (g.segs n).start (end_of g.segs g.last g.put n) (m (Number q i)) (m (Item q i)) i) h.2 (k.words.slots q n i a b l) in
-      cell_kept q i c (Stored p q i x) (ap (λ (z : Cell). holder z.1) h.2) (own_loose id c refl) (λ n a b. sym (ap (λ (z : Cell). z.0) h.2)) (update m (Item q i) x)
+      cell_kept q i c (Stored p q i x) (ap (λ (z : Cell). holder z.1) h.2) (own_loose id c refl) (λ n a b. subst (λ (z : Cell). StaysIn z c) (sym h.2) (refl, le_refl _)) (update m (Item q i) x)
       record {
         counts = k.words.counts;
         calls = k.words.calls;
@@ -138,7 +138,7 @@ module _ (f : Form) (m : Memory) (views : List View) (id : ℕ) (v : View) (k : 
       let num' : ℕ → ℕ → ℕ = put_at (λ a b. m (Number a b)) q i (2 * p + 1) in
       let slot : (n : ℕ) → g.home q ≡ suc n → g.prep ≢ suc q → i < (g.segs n).len → SlotOk (g.segs n).len g.values g.taken (g.segs n).start (end_of g.segs g.last g.put n) (m (Number q i)) (m (Item q i)) i (p, stored id)
       = λ n a b l. subst (SlotOk (g.segs n).len g.values g.taken (g.segs n).start (end_of g.segs g.last g.put n) (m (Number q i)) (m (Item q i)) i) h.2 (k.words.slots q n i a b l) in
-      cell_kept q i c Nothing (ap (λ (z : Cell). holder z.1) h.2) (free_loose id c refl) (λ n a b. sym (ap (λ (z : Cell). z.0) h.2)) (update m (Number q i) (2 * p + 1))
+      cell_kept q i c Nothing (ap (λ (z : Cell). holder z.1) h.2) (free_loose id c refl) (λ n a b. subst (λ (z : Cell). StaysIn z c) (sym h.2) (refl, (let l : 0 ≤ 1 = omega arith in l))) (update m (Number q i) (2 * p + 1))
       record {
         counts = k.words.counts;
         calls = k.words.calls;

@@ -17,7 +17,7 @@ use Rattle.seg_rule.specs.Slots.{free, reading, left, Cell, holder, SlotOk}
 use Rattle.seg_rule.specs.Places.{put_at, put_in}
 use Rattle.seg_rule.specs.declared.form.Form.{Form}
 use Rattle.seg_rule.specs.Rule.{Ghosts, IsWhole, Shows, HandOk, InHand, LeaveHas, ViewOk, watched, in_range, flag, Kept, takes_at, takes_in, watches}
-use Rattle.seg_rule.specs.Rely.{Grows, SameTurn, same_chain}
+use Rattle.seg_rule.specs.Rely.{StaysIn, Grows, SameTurn, same_chain}
 use Rattle.seg_rule.specs.Steps.{in_hand}
 use Rattle.seg_rule.proofs.Places.{at_here, at_else}
 use Rattle.seg_rule.proofs.Stays.{notes_stay, window_fact_stays, stage_stays}
@@ -67,7 +67,7 @@ module _ (f : Form) (m : Memory) (views : List View) (id : ℕ) (v : View) (k : 
       bar_up = λ a. ⊎_elim (λ (e : n ≡ a). subst (λ (z : ℕ). g.bar a ≤ z) (sym (ap (λ b. cond b g.taken (g.bar a)) (eq-eqb n a e))) (k.words.bars a)) (λ (ne : n ≢ a). subst (λ (z : ℕ). g.bar a ≤ z) (sym (bar_else a ne)) (le_refl (g.bar a))) (cases_eq n a);
       free_stays = λ a b e. inr (inl e);
       full_stays = λ a b n l l' e s z. inr (l, z);
-      kept = λ a b n e p l s. refl;
+      kept = λ a b n e p l s. (refl, le_refl _);
     }
 
     -- no window has the segment
@@ -137,7 +137,7 @@ module _ (f : Form) (m : Memory) (views : List View) (id : ℕ) (v : View) (k : 
   -- the load of observers that reads another number: the slot is left to the snapshots
   pub leave_refused : (p q i : ℕ) → v.hand ≡ Taking p q i Unread → Kept f m (set views id (in_hand v (Taking p q i Refused)))
   leave_refused p q i is = let h = taking p q i Unread is in let s = h.1 in let c : Cell = (p, left) in
-      cell_kept f m views id v k at q i c (Taking p q i Refused) (ap (λ (z : Cell). holder z.1) h.3) (free_loose id c refl) (λ n a b. sym (ap (λ (z : Cell). z.0) h.3)) m
+      cell_kept f m views id v k at q i c (Taking p q i Refused) (ap (λ (z : Cell). holder z.1) h.3) (free_loose id c refl) (λ n a b. subst (λ (z : Cell). StaysIn z c) (sym h.3) (refl, le_refl _)) m
       record {
         counts = k.words.counts;
         calls = k.words.calls;
@@ -306,5 +306,5 @@ module _ (f : Form) (m : Memory) (views : List View) (id : ℕ) (v : View) (k : 
         bar_up = λ n. le_refl _;
         free_stays = λ a b e. inr (inl e);
         full_stays = λ a b n l l' e s z. inr (l, z);
-        kept = λ a b n e p l s. refl;
+        kept = λ a b n e p l s. (refl, le_refl _);
       }

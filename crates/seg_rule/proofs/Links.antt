@@ -221,7 +221,7 @@ module _ (f : Form) (m : Memory) (views : List View) (id : ℕ) (v : View) (k : 
           let u' : g.taken < (g.segs (suc g.low)).start = subst (λ (y : ℕ). g.taken < (g.segs (suc y)).start) s u in omega arith))
           (λ (s : n ≢ g.low). inr ((let y : suc g.low ≤ n = omega arith in y), z))
           (cases_eq n g.low);
-      kept = λ a b n e p l s. refl;
+      kept = λ a b n e p l s. (refl, le_refl _);
     }
 
     stage_on : (s : Stage) → MayMoveFirst s → StageOk g id active v.caller s → StageOk f' id active v.caller s

@@ -27,10 +27,10 @@ use Rattle.seg_rule.specs.Slots.{Cell}
 use Rattle.seg_rule.specs.Rule.{Ghosts, Shows, HandOk, IsShape, IsWhole, HeadNote, TailFact, tail_word, CandidateSeen, WindowOk, WindowFact, WindowOwned, StageOk, ViewOk, Kept, in_range, flag}
 use Rattle.seg_rule.specs.Steps.{in_hand, blank}
 use Rattle.seg_rule.specs.declared.view.OpenTail.{OpenTail}
-use Rattle.seg_rule.specs.Tells.{IsAbove, IsBeside, IsFrom, Told, IsInFlight, Sees, is_idle, sees_in_flight, places_in, slots_in, room_in, first_len_in, place_count, slot_count}
+use Rattle.seg_rule.specs.Tells.{TellsWindow, IsAbove, IsBeside, IsFrom, Told, IsInFlight, Sees, is_idle, sees_in_flight, places_in, slots_in, room_in, first_len_in, place_count, slot_count}
 use Rattle.seg_layout.specs.Lengths.{IsSegmentLength}
 use Rattle.seg_rule.specs.Plays.{Reads}
-use Rattle.seg_rule.specs.Loads.{is_read, is_slot_of, is_front_slot, is_free_by, has_turn, has_closed, hand_at, leave_by, measured_by, is_spent_at, found_at, after_note, obstacles, noted, is_at_rest, begins_call, begun, told, loaded}
+use Rattle.seg_rule.specs.Loads.{is_read, is_slot_of, is_front_slot, is_free_by, has_turn, has_closed, hand_at, leave_by, measured_by, is_spent_at, found_at, at_first, obstacles, window_obstacles, noted, is_at_rest, begins_call, begun, told, loaded}
 use Rattle.seg_rule.proofs.Tails.{tail_even}
 use Rattle.seg_rule.proofs.Begins.{begins_kept}
 use Rattle.seg_rule.proofs.Leaves.{leave_given, leave_refused, sized_kept}
@@ -44,7 +44,7 @@ use Rattle.seg_rule.proofs.Causes.{head_moved, tail_moved, in_flight}
 use Rattle.seg_rule.proofs.Lawful.{whole_lawful, seen_lawful, taken_counted}
 use Rattle.seg_rule.proofs.Noting.{shut_now, closed_end, turn_mine, front_slot, noted_ok}
 use Rattle.seg_rule.proofs.Scanning.{found_kept}
-use Rattle.seg_rule.proofs.Spans.{range_is}
+use Rattle.seg_rule.proofs.Snapshots.{ends_noted, length_noted, after_noted, shown_noted, tells_window}
 
 set_twice : (views : List View) (i : ℕ) (a b : View) → set (set views i a) i b ≡ set views i b
 set_twice [] i a b = refl
@@ -128,12 +128,12 @@ module _ (f : Form) (m : Memory) (views : List View) (id : ℕ) (v : View) (k : 
   finds p x near now (Linked q t) is = same_stage (Linked q t) is
   finds p x near now (Observing q t b n r) is = same_stage (Observing q t b n r) is
 
-  -- the next word of the first place of the window
-  follows : (p x : ℕ) → m (Next p) ≡ x → (w : Option Window) → v.window ≡ w → Kept f m (set views id (record v { window = after_note p x w }))
-  follows p x now None is = subst (λ w. Kept f m (set views id (record v { window = w }))) is (same_kept f m views id v at k)
-  follows p x now (Some w) is = cond_both (eqb w.first p) (Some (record w { after = Some x })) (Some w) (λ w. Kept f m (set views id (record v { window = w })))
-      (λ e. let old : WindowOk g w = subst (WindowFact g) is ok.window in
-      own_kept f m views id v k at (record v { window = Some (record w { after = Some x }) })
+  -- what is noted of the first place of the window
+  window_notes : (F : Window → Window) (p : ℕ) → ((o : Window) (n : ℕ) → in_range n (Some o) ≡ in_range n (Some (F o))) → ((o : Window) → WindowOk g o → o.first ≡ p → WindowOk g (F o))
+      → (w : Option Window) → v.window ≡ w → Kept f m (set views id (record v { window = at_first F p w }))
+  window_notes F p range fact None is = subst (λ w. Kept f m (set views id (record v { window = w }))) is (same_kept f m views id v at k)
+  window_notes F p range fact (Some o) is = cond_both (eqb o.first p) (Some (F o)) (Some o) (λ w. Kept f m (set views id (record v { window = w })))
+      (λ e. own_kept f m views id v k at (record v { window = Some (F o) })
       record {
         of_object = ok.of_object;
         of_callers = ok.of_callers;
@@ -143,39 +143,88 @@ module _ (f : Form) (m : Memory) (views : List View) (id : ℕ) (v : View) (k : 
         hand = ok.hand;
         ties = ok.ties;
         stage = ok.stage;
-        window = record {
-          some = old.some;
-          opened = old.opened;
-          behind = old.behind;
-          first = old.first;
-          last = old.last;
-          after = λ beyond. next_place w old (eqb-true w.first p e) beyond;
-          there = old.there;
-        };
+        window = fact o (subst (WindowFact g) is ok.window) (eqb-true o.first p e);
         owned = subst (WindowOwned (HasNumber v.held v.caller)) is ok.owned;
       }
-      refl (λ q. refl) (λ n. ap (λ z. flag (in_range n z)) is) refl)
+      refl (λ q. refl) (λ n. ap (λ z. flag (in_range n z)) is ∙ ap flag (range o n)) refl)
       (λ e. subst (λ w. Kept f m (set views id (record v { window = w }))) is (same_kept f m views id v at k))
-    where
-      next_place : (w : Window) → WindowOk g w → w.first ≡ p → suc w.begin < w.end → x ≡ (g.segs (suc w.begin)).place
-      next_place w old here beyond =
-          let there = old.first (let z : w.begin < w.end = omega arith in z) in
-          let a = old.opened w.begin (range_is w.begin w.end w.begin (le_refl _) (let z : w.begin < w.end = omega arith in z)) in
-          let b = old.opened (suc w.begin) (range_is w.begin w.end (suc w.begin) (omega arith) beyond) in
-          sym now ∙ (ap (λ z. m (Next z)) (sym (there ∙ here)) ∙ k.words.links.next_is w.begin b.3 a.1 a.2)
+
+  after_read : (p x : ℕ) → m (Next p) ≡ x → Kept f m (set views id (record v { window = at_first (λ o. record o { after = Some x }) p v.window }))
+  after_read p x now = window_notes (λ o. record o { after = Some x }) p (λ o n. refl) (λ o y here. record {
+    some = y.some;
+    opened = y.opened;
+    behind = y.behind;
+    first = y.first;
+    last = y.last;
+    ends = y.ends;
+    length = y.length;
+    shown = y.shown;
+    there = y.there;
+    after = after_noted f m views id v k at o y x (ap (λ z. m (Next z)) here ∙ now);
+  }) v.window refl
+
+  ends_read : (p x : ℕ) → m (Tail p) ≡ x → Kept f m (set views id (record v { window = at_first (λ o. record o { ends = Some (x / 2) }) p v.window }))
+  ends_read p x now = window_notes (λ o. record o { ends = Some (x / 2) }) p (λ o n. refl) (λ o y here. record {
+    some = y.some;
+    opened = y.opened;
+    behind = y.behind;
+    first = y.first;
+    last = y.last;
+    after = y.after;
+    length = y.length;
+    shown = y.shown;
+    there = y.there;
+    ends = ends_noted f m views id v k at o y x (ap (λ z. m (Tail z)) here ∙ now);
+  }) v.window refl
+
+  length_read : (p x : ℕ) → m (Length p) ≡ x → Kept f m (set views id (record v { window = at_first (λ o. record o { length = Some x }) p v.window }))
+  length_read p x now = window_notes (λ o. record o { length = Some x }) p (λ o n. refl) (λ o y here. record {
+    some = y.some;
+    opened = y.opened;
+    behind = y.behind;
+    first = y.first;
+    last = y.last;
+    after = y.after;
+    ends = y.ends;
+    shown = y.shown;
+    there = y.there;
+    length = length_noted f m views id v k at o y x (ap (λ z. m (Length z)) here ∙ now);
+  }) v.window refl
+
+  shown_read : (p i x : ℕ) → m (Number p i) ≡ x → Kept f m (set views id (record v { window = at_first (λ o. record o { shown = Some (i, x) }) p v.window }))
+  shown_read p i x now = window_notes (λ o. record o { shown = Some (i, x) }) p (λ o n. refl) (λ o y here. record {
+    some = y.some;
+    opened = y.opened;
+    behind = y.behind;
+    first = y.first;
+    last = y.last;
+    after = y.after;
+    ends = y.ends;
+    length = y.length;
+    there = y.there;
+    shown = shown_noted f m views id v k at o y i x (ap (λ z. m (Number z i)) here ∙ now);
+  }) v.window refl
 
   abbrev noticed : QueueWord → ℕ → View
-  noticed w x = record v { met = v.met ++ obstacles v.stage w x v.notes; notes = noted v.stage w x v.notes }
+  noticed w x = record v { met = v.met ++ window_obstacles w x v.window (obstacles v.stage w x v.notes); notes = noted v.stage w x v.notes }
 
   notices : (w : QueueWord) (x : ℕ) → IsWord f.places f.slots w → m w ≡ x → Kept f m (set views id (noticed w x))
-  notices w x near now = look_kept f m views id v k at (noted v.stage w x v.notes) (v.met ++ obstacles v.stage w x v.notes) (noted_ok f m views id v k at w x near now v.notes ok.notes)
+  notices w x near now = look_kept f m views id v k at (noted v.stage w x v.notes) (v.met ++ window_obstacles w x v.window (obstacles v.stage w x v.notes)) (noted_ok f m views id v k at w x near now v.notes ok.notes)
 
 module _ (f : Form) (m : Memory) (views : List View) (id : ℕ) (v : View) (k : Kept f m views) (at : get_elem? views id ≡ some v) where
   pub told_kept : (w : QueueWord) (x : ℕ) → IsWord f.places f.slots w → m w ≡ x → Kept f m (set views id (told w x v))
-  told_kept (Length p) x near now = and_then f m views id v at (noticed f m views id v k at (Length p) x) (told (Length p) x v) (notices f m views id v k at (Length p) x near now)
-      (λ k' at'. hands_at f m (set views id (noticed f m views id v k at (Length p) x)) id (noticed f m views id v k at (Length p) x) k' at' (measured_by x) p (λ q i l is. measures_by f m (set views id (noticed f m views id v k at (Length p) x)) id (noticed f m views id v k at (Length p) x) k' at' q p i x now l is) v.hand refl)
+  told_kept (Length p) x near now =
+      let w₁ : View = noticed f m views id v k at (Length p) x in let w₂ : View = in_hand w₁ (hand_at (measured_by x) p v.hand) in
+      and_then f m views id v at w₂ (told (Length p) x v)
+      (and_then f m views id v at w₁ w₂ (notices f m views id v k at (Length p) x near now)
+      (λ k' at'. hands_at f m (set views id w₁) id w₁ k' at' (measured_by x) p (λ q i l is. measures_by f m (set views id w₁) id w₁ k' at' q p i x now l is) v.hand refl))
+      (λ k' at'. length_read f m (set views id w₂) id w₂ k' at' p x now)
   told_kept (Next p) x near now = and_then f m views id v at (noticed f m views id v k at (Next p) x) (told (Next p) x v) (notices f m views id v k at (Next p) x near now)
-      (λ k' at'. follows f m (set views id (noticed f m views id v k at (Next p) x)) id (noticed f m views id v k at (Next p) x) k' at' p x now v.window refl)
+      (λ k' at'. after_read f m (set views id (noticed f m views id v k at (Next p) x)) id (noticed f m views id v k at (Next p) x) k' at' p x now)
+  told_kept (Tail p) x near now = and_then f m views id v at (noticed f m views id v k at (Tail p) x) (told (Tail p) x v) (notices f m views id v k at (Tail p) x near now)
+      (λ k' at'. ends_read f m (set views id (noticed f m views id v k at (Tail p) x)) id (noticed f m views id v k at (Tail p) x) k' at' p x now)
+  told_kept (Number p i) x near now = and_then f m views id v at (noticed f m views id v k at (Number p i) x) (told (Number p i) x v) (notices f m views id v k at (Number p i) x near now)
+      (λ k' at'. shown_read f m (set views id (noticed f m views id v k at (Number p i) x)) id (noticed f m views id v k at (Number p i) x) k' at' p i x now)
   told_kept (Observers p) x near now =
       let w₁ : View = noticed f m views id v k at (Observers p) x in let w₂ : View = in_hand w₁ (hand_at (leave_by x) p v.hand) in
       and_then f m views id v at w₂ (told (Observers p) x v)
@@ -186,11 +235,9 @@ module _ (f : Form) (m : Memory) (views : List View) (id : ℕ) (v : View) (k : 
   told_kept Turn x near now = notices f m views id v k at Turn x near now
   told_kept Current x near now = notices f m views id v k at Current x near now
   told_kept First x near now = notices f m views id v k at First x near now
-  told_kept (Tail p) x near now = notices f m views id v k at (Tail p) x near now
   told_kept (Start p) x near now = notices f m views id v k at (Start p) x near now
   told_kept (Done p) x near now = notices f m views id v k at (Done p) x near now
   told_kept (Segment p) x near now = notices f m views id v k at (Segment p) x near now
-  told_kept (Number p i) x near now = notices f m views id v k at (Number p i) x near now
   told_kept (Item p i) x near now = notices f m views id v k at (Item p i) x near now
 
   begun_kept : (w : QueueWord) → Kept f m (set views id (begun w v))
@@ -433,6 +480,11 @@ module _ (f : Form) (m : Memory) (views : List View) (id : ℕ) (v : View) (k : 
     record {
       told = reads_told f m (set views id (begun w v)) id (begun w v) (begun_kept f m views id v k at w) (here (begun w v)) s w x near now;
       lawful = seen_lawful f m views id v k at;
+      window = window_told v.window refl;
       sees = a.2;
     },
   )
+    where
+      window_told : (o : Option Window) → v.window ≡ o → IfSome o (TellsWindow w x v)
+      window_told None is = tt
+      window_told (Some o) is = tells_window f m views id v k at w x now o is

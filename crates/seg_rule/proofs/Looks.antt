@@ -20,13 +20,13 @@ use Rattle.seg_rule.specs.declared.view.Stage.{Stage}
 use Rattle.seg_rule.specs.Words.{Memory}
 use Rattle.seg_rule.specs.Object.{Stands}
 use Rattle.seg_rule.specs.Chain.{end_of}
-use Rattle.seg_rule.specs.Slots.{Phase, free, writing, stored, full, reading, left, Cell, face, up, InPhase, SlotOk}
+use Rattle.seg_rule.specs.Slots.{Phase, free, writing, stored, full, reading, left, Cell, face, InPhase, SlotOk}
 use Rattle.seg_rule.specs.declared.form.Form.{Form}
 use Rattle.seg_rule.specs.Rule.{Ghosts, IsWhole, HeadNote, TailSeen, FrontSeen, NotesOk, HandOk, StageOk, WindowFact, ViewOk, Kept, in_range, takes_in, watches, paid_of, flag}
 use Rattle.seg_rule.specs.Rely.{Grows, SameTurn}
 use Rattle.seg_rule.specs.Steps.{blank, count_made, MayCount}
 use Rattle.seg_rule.proofs.Chains.{rises}
-use Rattle.seg_rule.proofs.Slots.{tail_slot}
+use Rattle.seg_rule.proofs.Slots.{up_bit, tail_slot}
 use Rattle.seg_rule.proofs.Stays.{blank_ok, window_fact_stays, owned_by}
 use Rattle.seg_rule.proofs.Frames.{kept_after}
 use Rattle.seg_rule.proofs.Sums.{total_part}
@@ -47,7 +47,7 @@ entry_grows g log made paid = record {
   bar_up = λ n. le_refl _;
   free_stays = λ a b e. inr (inl e);
   full_stays = λ a b n l l' e s z. inr (l, z);
-  kept = λ a b n e p l s. refl;
+  kept = λ a b n e p l s. (refl, le_refl _);
 }
 
 pub entry_turn : (g : Ghosts) (log : List EntryMark) (made : List ℕ) (paid : ℕ) → SameTurn g (record g { log = log; made = made; paid = paid })
@@ -60,14 +60,6 @@ or_zero (Some x) = x
 abbrev pub is_some : Option ℕ → Bool
 is_some None = false
 is_some (Some x) = true
-
-up_bit : (ph : Phase) → up ph ≤ 1
-up_bit free = omega arith
-up_bit (writing j) = omega arith
-up_bit (stored j) = omega arith
-up_bit full = omega arith
-up_bit (reading j) = omega arith
-up_bit left = omega arith
 
 -- the published number of a position that is not taken is that of a full slot
 published_cell : (n : ℕ) (xs : List Mark) (h s e x y i p : ℕ) (c : Cell) → SlotOk n xs h s e x y i c → x ≡ 2 * p + 1 → h ≤ p → Path Cell c (p, full) × (p < e)

@@ -181,7 +181,7 @@ module _ (v : View) (h : Here) (k : IsHere v h) where
   told_here Turn x t may near same = noticed_here (told Turn x v).met (noted v.stage Turn x v.notes) v.hand v.stage v.window k.turn k.hand k.stage (notes_are v h v.stage Turn x t k.notes)
   told_here Current x t may near same = subst (IsHere (told Current x v)) (sym (same refl)) (noticed_here (told Current x v).met (noted v.stage Current x v.notes) v.hand v.stage v.window k.turn k.hand k.stage (subst (NotesAre (noted v.stage Current x v.notes)) (same refl) (notes_are v h v.stage Current x t k.notes)))
   told_here First x t may near same = subst (IsHere (told First x v)) (sym (same refl)) (noticed_here (told First x v).met (noted v.stage First x v.notes) v.hand v.stage v.window k.turn k.hand k.stage (subst (NotesAre (noted v.stage First x v.notes)) (same refl) (notes_are v h v.stage First x t k.notes)))
-  told_here (Tail p) x t may near same = noticed_here (told (Tail p) x v).met (noted v.stage (Tail p) x v.notes) v.hand v.stage v.window k.turn k.hand k.stage (notes_are v h v.stage (Tail p) x t k.notes)
+  told_here (Tail p) x t may near same = noticed_here (told (Tail p) x v).met (noted v.stage (Tail p) x v.notes) v.hand v.stage (told (Tail p) x v).window k.turn k.hand k.stage (notes_are v h v.stage (Tail p) x t k.notes)
   told_here (Start p) x t may near same = noticed_here (told (Start p) x v).met (noted v.stage (Start p) x v.notes) v.hand v.stage v.window k.turn k.hand k.stage (notes_are v h v.stage (Start p) x t k.notes)
   told_here (Length p) x t may near same = record {
     paid = k.paid;

@@ -22,6 +22,12 @@ got [] i x e = absurd (some-ne-none x (sym e))
 got (y ∷ ys) zero x e = ap Some (some-injective y x e)
 got (y ∷ ys) (suc i) x e = got ys i x e
 
+-- and one of which the list before goes on
+pub got_before : {A : Type 0} (xs ys : List A) (i : ℕ) (x : A) → i < length xs → get_elem? (xs ++ ys) i ≡ some x → slice_get xs i ≡ Some x
+got_before [] ys i x l e = absurd (omega arith)
+got_before (y ∷ xs) ys zero x l e = ap Some (some-injective y x e)
+got_before (y ∷ xs) ys (suc i) x l e = got_before xs ys i x (let l' : i < length xs = omega arith in l') e
+
 module _ (room first : ℕ) (log : List EntryMark) (xs : List Mark) (cs : List ℕ) (taken c : ℕ) (s : Stands room first log xs cs taken) (low : c < 64) where
   abbrev counts : Tally
   counts = record { enqueued = length xs; taken = taken }

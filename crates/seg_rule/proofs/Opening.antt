@@ -18,7 +18,7 @@ use Rattle.seg_rule.specs.Slots.{free, Cell, holder}
 use Rattle.seg_rule.specs.Places.{Cells, SlotsOk, put_in}
 use Rattle.seg_rule.specs.declared.form.Form.{Form}
 use Rattle.seg_rule.specs.Rule.{Ghosts, IsWhole, TailSeen, HandOk, InHand, StageOk, WindowFact, ViewOk, tail_word, watched, watches, in_range, flag, passed, TailsOk, FollowsLength, Words, Kept}
-use Rattle.seg_rule.specs.Rely.{IsLate, Grows, Rely}
+use Rattle.seg_rule.specs.Rely.{IsLate, StaysIn, Grows, Rely}
 use Rattle.seg_layout.specs.Lengths.{IsSegmentLength}
 use Rattle.seg_rule.specs.Steps.{fit_tail, opened_by}
 use Rattle.seg_rule.proofs.Chains.{opens}
@@ -119,7 +119,7 @@ module _ (f : Form) (m : Memory) (views : List View) (id : ℕ) (v : View) (k : 
     bar_up = λ a. le_refl _;
     free_stays = λ a b s. ⊎_elim (λ (e : q ≡ a). inr (inr (subst (IsLate g) e (last_place, k.words.preps.full q prep_q)))) (λ (ne : q ≢ a). inr (inl (cell_else a b ne ∙ s))) (cases_eq q a);
     full_stays = λ a b o l h s r z. inr (l, cell_else a b (λ e. not_chain o l h (s ∙ sym e)) ∙ z);
-    kept = λ a b o s p l r. ap (λ (z : Cell). z.0) (cell_else a b (apart a p));
+    kept = λ a b o s p l r. subst (StaysIn (g.cells a b)) (sym (cell_else a b (apart a p))) (refl, le_refl _);
   }
 
   place_stays : (a o : ℕ) → g.home a ≡ suc o → g.prep ≢ suc a → (home' a ≡ suc o) × (0 ≢ suc a)

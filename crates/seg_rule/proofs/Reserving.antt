@@ -25,7 +25,7 @@ use Rattle.seg_rule.specs.Slots.{free, writing, Cell, up, holder}
 use Rattle.seg_rule.specs.Places.{put_at}
 use Rattle.seg_rule.specs.declared.form.Form.{Form}
 use Rattle.seg_rule.specs.Rule.{Ghosts, IsWhole, HeadNote, TailSeen, TailFact, InHand, StageOk, ViewOk, DonesOk, passed, Words, Kept, takes_at, takes_in, flag, paid_of}
-use Rattle.seg_rule.specs.Rely.{Grows, Rely}
+use Rattle.seg_rule.specs.Rely.{StaysIn, Grows, Rely}
 use Rattle.seg_rule.specs.Steps.{count_made, MayCount, entered, fit_tail, MayReserve, Reserves}
 use Rattle.seg_rule.proofs.Chains.{not_stale, more_put}
 use Rattle.seg_rule.proofs.Places.{at_here, reserve_slots}
@@ -117,7 +117,7 @@ module _ (f : Form) (m : Memory) (views : List View) (id : ℕ) (v : View) (k : 
         bar_up = λ a. le_refl _;
         free_stays = λ a b s. inl (le_refl _);
         full_stays = λ a b y l l' s t. put_full g q i c (g.taken < g.taken) (λ z. absurd (let u : 0 ≡ 1 = sym (ap (λ (y : Cell). up y.1) is) ∙ ap (λ (y : Cell). up y.1) z in omega arith)) a b y l;
-        kept = λ a b y s p l. put_kept g q i c (λ o z r. sym (ap (λ (y : Cell). y.0) is)) a b y s;
+        kept = λ a b y s p l. put_kept g q i c (λ o z r. subst (λ (y : Cell). StaysIn y c) (sym is) (refl, le_refl _)) a b y s;
       }
 
       own : (g.owner v.caller ≡ id) × (v.caller < f.callers)

@@ -7,10 +7,18 @@ use mathlib.Core.Path.{Path}
 use lib.ListN.{get_elem?}
 use Rattle.ho_base.specs.Marks.{Mark}
 use Rattle.atomic_table.proofs.Lists.{one_turn}
-use Rattle.seg_rule.specs.Slots.{Phase, free, writing, stored, full, reading, left, Cell, face, InPhase, SlotOk}
+use Rattle.seg_rule.specs.Slots.{Phase, free, writing, stored, full, reading, left, Cell, face, up, InPhase, SlotOk}
 
 abbrev pub Longer : {A : Type 0} → List A → List A → Type 0
 Longer {A} xs ys = (p : ℕ) (x : A) → get_elem? xs p ≡ some x → get_elem? ys p ≡ some x
+
+pub up_bit : (ph : Phase) → up ph ≤ 1
+up_bit free = omega arith
+up_bit (writing j) = omega arith
+up_bit (stored j) = omega arith
+up_bit full = omega arith
+up_bit (reading j) = omega arith
+up_bit left = omega arith
 
 phase_stays : (xs xs' : List Mark) (h h' e e' y p : ℕ) → Longer xs xs' → h ≤ h' → e ≤ e' → (e ≤ p → e' ≤ p) → (p < e → h ≤ p → h' ≤ p) → (ph : Phase) → InPhase xs h e y p ph → InPhase xs' h' e' y p ph
 phase_stays xs xs' h h' e e' y p more a b ee hh free k = ee k

@@ -17,18 +17,22 @@ use Rattle.seg_rule.specs.declared.view.Hand.TheVariants.{Nothing, Reserved, Sto
 use Rattle.seg_rule.specs.declared.view.Stage.{Stage}
 use Rattle.seg_rule.specs.declared.view.Stage.TheVariants.{Away, Plain, Closed, Found, Preparing, Opened, Linked, Observing}
 use Rattle.seg_rule.specs.Chain.{Seg, ChainOk, TailNote, end_of}
-use Rattle.seg_rule.specs.Slots.{free, full, Cell, holder}
+use Rattle.seg_rule.specs.Slots.{Phase, free, full, Cell, up, holder}
 use Rattle.seg_rule.specs.Places.{HomeOk}
 use Rattle.seg_rule.specs.declared.form.Form.{Form}
-use Rattle.seg_rule.specs.Rule.{Ghosts, IsWhole, Shows, HeadNote, TailSeen, TailFact, FrontSeen, FrontFact, NotesOk, CandidateSeen, LengthAt, NextAt, IsPast, ScanSeen, LeaveOk, HandOk, HasTurn, StageOk, WindowOk, WindowFact, WindowOwned, ViewOk, in_range, IsFree}
+use Rattle.seg_rule.specs.Rule.{Ghosts, IsWhole, Shows, HeadNote, TailSeen, TailFact, FrontSeen, FrontFact, NotesOk, CandidateSeen, LengthAt, NextAt, IsPast, ScanSeen, LeaveOk, HandOk, HasTurn, StageOk, ShownAt, WindowOk, WindowFact, WindowOwned, ViewOk, in_range, IsFree}
 use Rattle.seg_rule.specs.Rely.{IsLate, Grows, HandPlace, SameChain, SameTurn, same_chain, Rely}
 use Rattle.seg_rule.specs.Steps.{blank, blank_scan, no_scan}
 use Rattle.seg_rule.proofs.Chains.{prepared_late}
+use Rattle.seg_rule.proofs.Slots.{up_bit}
 use Rattle.seg_rule.proofs.Spans.{range_is}
 
 pub if_some : {X : Type 0} (P Q : X → Type 0) → ((x : X) → P x → Q x) → (o : Option X) → IfSome o P → IfSome o Q
 if_some P Q f None y = tt
 if_some P Q f (Some x) y = f x y
+
+published : (a b : Phase) → up a ≤ up b → up a ≡ 1 → up b ≡ 1
+published a b l e = let bit = up_bit b in omega arith
 
 pub owned_by : {active : Type 0} → active → (w : Option Window) → WindowOwned active w
 owned_by a None = tt
@@ -218,11 +222,24 @@ module _ (g g' : Ghosts) (c : ChainOk g.segs g.low g.last g.taken g.put) (k : Gr
       some = x.some;
       opened = λ n r. let o = x.opened n r in let p = pins ((g.segs n).place) n r o.1 o.2 in let same : (g.segs n).place ≡ (g'.segs n).place = ap (λ (s : Seg). s.place) (sym (k.segs n o.0)) in
           (le_trans o.0 k.last_up, subst (λ (z : ℕ). g'.home z ≡ suc n) same p.0, subst (λ (z : ℕ). g'.prep ≢ suc z) same p.1, le_trans o.3 k.linked_up);
-      behind = (le_trans x.behind.0 k.taken_up, le_trans x.behind.1 k.put_up);
+      behind = le_trans x.behind k.put_up;
       first = λ l. ap (λ (s : Seg). s.place) (k.segs w.begin (x.opened w.begin (range_is w.begin w.end w.begin (le_refl _) l)).0) ∙ x.first l;
       last = λ n e l. ap (λ (s : Seg). s.place) (k.segs n (x.opened n (range_is w.begin w.end n l (let r : n < w.end = omega arith in r))).0) ∙ x.last n e l;
       after = if_some (λ (p : ℕ). suc w.begin < w.end → p ≡ (g.segs (suc w.begin)).place) (λ (p : ℕ). suc w.begin < w.end → p ≡ (g'.segs (suc w.begin)).place)
           (λ p y l. y l ∙ ap (λ (s : Seg). s.place) (sym (k.segs (suc w.begin) (x.opened (suc w.begin) (range_is w.begin w.end (suc w.begin) (let r : w.begin ≤ suc w.begin = omega arith in r) l)).0))) w.after x.after;
+      ends = if_some (λ e. suc w.begin < w.end → (g.segs (suc w.begin)).start ≡ e) (λ e. suc w.begin < w.end → (g'.segs (suc w.begin)).start ≡ e)
+          (λ e y l. ap (λ (s : Seg). s.start) (k.segs (suc w.begin) (x.opened (suc w.begin) (range_is w.begin w.end (suc w.begin) (let r : w.begin ≤ suc w.begin = omega arith in r) l)).0) ∙ y l) w.ends x.ends;
+      length = if_some (λ n. n ≡ (g.segs w.begin).len) (λ n. n ≡ (g'.segs w.begin).len)
+          (λ n y. y ∙ ap (λ (s : Seg). s.len) (sym (k.segs w.begin (x.opened w.begin (range_is w.begin w.end w.begin (le_refl _) x.some)).0))) w.length x.length;
+      shown = if_some (ShownAt g w) (ShownAt g' w) (λ y s p e lo hi near.
+          let first = range_is w.begin w.end w.begin (le_refl _) x.some in let o = x.opened w.begin first in let same : g'.segs w.begin ≡ g.segs w.begin = k.segs w.begin o.0 in
+          let near' : y.0 < (g.segs w.begin).len = subst (λ (z : Seg). y.0 < z.len) same near in let a = s p e lo hi near' in
+          let moved = k.kept ((g.segs w.begin).place) y.0 w.begin o.1 o.2 near' (subst (λ (z : ℕ). g.bar w.begin ≤ z) (sym a.0) a.2) in
+          let bar = (pins ((g.segs w.begin).place) w.begin first o.1 o.2).2 in (
+            subst (λ (z : Seg). (g'.cells z.place y.0).0 ≡ p) (sym same) (moved.0 ∙ a.0),
+            subst (λ (z : Seg). up (g'.cells z.place y.0).1 ≡ 1) (sym same) (published (g.cells ((g.segs w.begin).place) y.0).1 (g'.cells ((g.segs w.begin).place) y.0).1 moved.1 a.1),
+            subst (λ (z : ℕ). z ≤ p) (sym bar) a.2,
+          )) w.shown x.shown;
       there = λ p a b. let t = x.there p a b in let n : ℕ = t.0 in let i : ℕ = t.1 in let o = x.opened n t.2 in let s : g'.segs n ≡ g.segs n = k.segs n o.0 in
           let moved = k.kept ((g.segs n).place) i n o.1 o.2 t.5 (subst (λ (z : ℕ). g.bar n ≤ z) (sym t.7) t.8) in
           let bar = (pins ((g.segs n).place) n t.2 o.1 o.2).2 in (
@@ -233,7 +250,7 @@ module _ (g g' : Ghosts) (c : ChainOk g.segs g.low g.last g.taken g.put) (k : Gr
             le_trans t.4 (end_up n o.0),
             subst (λ (z : Seg). i < z.len) (sym s) t.5,
             subst (λ (z : Seg). p % z.len ≡ i) (sym s) t.6,
-            subst (λ (z : Seg). (g'.cells z.place i).0 ≡ p) (sym s) (moved ∙ t.7),
+            subst (λ (z : Seg). (g'.cells z.place i).0 ≡ p) (sym s) (moved.0 ∙ t.7),
             subst (λ (z : ℕ). z ≤ p) (sym bar) t.8,
           );
     }

@@ -46,7 +46,7 @@ turn_grows g made paid turn called shut = record {
   bar_up = λ n. le_refl _;
   free_stays = λ a b e. inr (inl e);
   full_stays = λ a b n l l' e s z. inr (l, z);
-  kept = λ a b n e p l s. refl;
+  kept = λ a b n e p l s. (refl, le_refl _);
 }
 
 module _ (f : Form) (m : Memory) (views : List View) (id : ℕ) (v : View) (k : Kept f m views) (at : get_elem? views id ≡ some v) where

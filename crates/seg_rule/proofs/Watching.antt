@@ -21,7 +21,7 @@ use Rattle.seg_rule.specs.declared.view.Stage.TheVariants.{Closed, Observing}
 use Rattle.seg_rule.specs.Words.{Memory, memory, update, index_of, IsWord}
 use Rattle.seg_rule.specs.Rule.{ViewOk, NextAt, WindowOk, WindowFact, WindowOwned, StageOk, Kept, Rule, watched, watches, in_range, flag, total}
 use Rattle.seg_rule.specs.Steps.{blank, count_made}
-use Rattle.seg_rule.specs.Snapshots.{MayObserve, Observes, ObservesFrom, observing, first_of, MayLookAll, Snaps, snap_of, tail_at, looked_stage, looked_window, MayEnd, ended, rest_of, without_first, observes, snaps, ends}
+use Rattle.seg_rule.specs.Snapshots.{MayObserve, Observes, ObservesFrom, observing, first_of, MayLookAll, Snaps, snap_of, window_over, tail_at, looked_stage, looked_window, MayEnd, ended, rest_of, without_first, observes, snaps, ends}
 use Rattle.std.proofs.Math.Nat.{add-mod_right}
 use Rattle.seg_rule.proofs.Spans.{range_is}
 use Rattle.seg_rule.proofs.Sums.{total_part}
@@ -194,7 +194,7 @@ module _ (f : Form) (slots id : ℕ) (me : Me ℕ View) where
       let at_tail : tail_at v.stage ≡ may.tail = ap tail_at may.stage in
       let e : EntryMark = entry v.caller Snap (Numbers (map number_of (drop k.g.taken k.g.values))) in
       let is : e ≡ snap_of v h k.g.log = (λ i. entry v.caller Snap (Numbers (map number_of (drop (x i) (sym c.stands.1 i))))) in
-      let w : View = record v { seen = k.g.log ++ e ∷ []; joint = None; made = count_made v.paid v.made v.caller; paid = false; notes = blank; stage = Closed may.current may.tail false; window = Some (record { begin = o.begin; end = o.end; head = k.g.taken; tail = may.tail; first = o.first; last = may.current; after = None }) } in (
+      let w : View = record v { seen = k.g.log ++ e ∷ []; joint = None; made = count_made v.paid v.made v.caller; paid = false; notes = blank; stage = Closed may.current may.tail false; window = Some (record (window_over o.begin o.end o.first may.current) { head = k.g.taken; tail = may.tail }) } in (
         w,
         looked.0,
         record {

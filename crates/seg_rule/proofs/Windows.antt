@@ -1,6 +1,6 @@
 -- Snapshots: observe add, head look, observe end.
 use Rattle.std.proofs.Common.{◌≡◌, ℕ, zero, suc, ◌+◌, ◌-◌, ◌%◌, ◌<◌, ◌≤◌, ◌≢◌, inr, ⊎_elim, ltb, leb, cond, Bool, true, false, true≢false, ◌&&◌, List, [], ◌∷◌, ◌++◌, set, sym, refl, ap, ◌∙◌, subst, arith, le_trans, le_refl, eq-eqb, ne_eqb, mod-lt, drop, map}
-use Rattle.std.proofs.lemmas.Bool.{cases_lt, cases_eq}
+use Rattle.std.proofs.lemmas.Bool.{cases_lt, cases_eq, lt-ltb, le-ltb}
 use mathlib.Core.Option.{some}
 use lib.ListN.{get_elem?}
 use Rattle.std.specs.Prelude.{Option, Some, None, IfSome}
@@ -15,13 +15,14 @@ use Rattle.seg_rule.specs.Words.{Memory, update}
 use Rattle.seg_rule.specs.Chain.{end_of}
 use Rattle.seg_rule.specs.Places.{put_in}
 use Rattle.seg_rule.specs.declared.form.Form.{Form}
-use Rattle.seg_rule.specs.Snapshots.{window_over, observing}
+use Rattle.seg_rule.specs.Snapshots.{window_over, observing, left_from}
 use Rattle.seg_rule.specs.Rule.{Ghosts, IsWhole, NextAt, StageOk, WindowOk, WindowFact, WindowOwned, ViewOk, Kept, watched, watches, in_range, flag}
 use Rattle.seg_rule.specs.Rely.{Grows, SameTurn}
 use Rattle.seg_rule.specs.Steps.{blank, no_scan, count_made, MayCount}
 use Rattle.seg_rule.proofs.Chains.{in_chain}
 use Rattle.seg_rule.proofs.Slots.{slot_position}
 use Rattle.seg_rule.proofs.Spans.{range_is, range_told, same_flag, false_flag}
+use Rattle.seg_rule.proofs.Snapshots.{one_left, more_left}
 use Rattle.seg_rule.proofs.Stays.{notes_stay, notes_alone, stage_stays, window_fact_stays, owned_by}
 use Rattle.seg_rule.proofs.Frames.{kept_after}
 use Rattle.seg_rule.proofs.Sums.{total_part}
@@ -165,10 +166,13 @@ module _ (f : Form) (m : Memory) (views : List View) (id : ℕ) (v : View) (k : 
                   (λ (s : n ≡ e). ((let z : n ≤ g.last = omega arith in z), subst (λ (z : ℕ). g.home ((g.segs z).place) ≡ suc z) (sym s) home_e, (λ z. let y : 0 ≡ suc ((g.segs n).place) = sym idle ∙ z in omega arith), (let o = k.words.links.order in let l = o.1 in let z : n ≤ g.linked = omega arith in z)))
                   (λ (ne : n ≢ e). was n (has n y.0 (omega arith)))
                   (cases_eq n e);
-              behind = (omega arith, omega arith);
+              behind = omega arith;
               first = λ l. first_is;
               last = λ n s l. let z : e ≡ n = (let s' : suc e ≡ suc n = s in omega arith) in ap (λ (x : ℕ). (g.segs x).place) (sym z);
               after = tt;
+              ends = tt;
+              length = tt;
+              shown = tt;
               there = λ x lo hi. absurd (omega arith);
             };
           };
@@ -204,16 +208,19 @@ module _ (f : Form) (m : Memory) (views : List View) (id : ℕ) (v : View) (k : 
 
   -- a window over the whole chain has each position that is not taken
   abbrev full_window : ℕ → ℕ → Window
-  full_window p q = record { begin = g.low; end = suc g.last; head = g.taken; tail = g.put; first = p; last = q; after = None }
+  full_window p q = record (window_over g.low (suc g.last) p q) { head = g.taken; tail = g.put }
 
   pub window_full : (p q : ℕ) → (g.segs g.low).place ≡ p → (g.segs g.last).place ≡ q → g.prep ≡ 0 → g.now ≡ g.last → WindowOk g (full_window p q)
   window_full p q at_low at_last idle settled = record {
     some = (let l = k.words.chain.inside in let z : g.low < suc g.last = omega arith in z);
     opened = λ n r. let q = range_told g.low (suc g.last) n r in let q' = q.1 in let l : n ≤ g.last = omega arith in (l, k.words.homes.chain n q.0 l, (λ z. never n z), (let o = k.words.links.order in let s = o.1 in let z : n ≤ g.linked = omega arith in z));
-    behind = (le_refl _, le_refl _);
+    behind = le_refl _;
     first = λ l. at_low;
     last = λ n s l. let z : g.last ≡ n = (let s' : suc g.last ≡ suc n = s in omega arith) in ap (λ (x : ℕ). (g.segs x).place) (sym z) ∙ at_last;
     after = tt;
+    ends = tt;
+    length = tt;
+    shown = tt;
     there = λ p lo hi. at_position p lo hi;
   }
     where
@@ -232,7 +239,7 @@ module _ (f : Form) (m : Memory) (views : List View) (id : ℕ) (v : View) (k : 
 
   -- head look: with the tail closed, and the whole chain observed
   pub head_looked : MayCount v → (o : Window) (q t n : ℕ) → v.stage ≡ Observing q t o.begin n q → v.window ≡ Some o → o.end ≡ suc n → let e : EntryMark = entry v.caller Snap (Numbers (map number_of (drop g.taken g.values))) in
-      Kept f m (set views id (record v { seen = g.log ++ e ∷ []; joint = None; made = count_made v.paid v.made v.caller; paid = false; notes = blank; stage = Closed q t false; window = Some (record { begin = o.begin; end = o.end; head = g.taken; tail = t; first = o.first; last = q; after = None }) })) × (g.put ≡ t)
+      Kept f m (set views id (record v { seen = g.log ++ e ∷ []; joint = None; made = count_made v.paid v.made v.caller; paid = false; notes = blank; stage = Closed q t false; window = Some (record (window_over o.begin o.end o.first q) { head = g.taken; tail = t }) })) × (g.put ≡ t)
   head_looked may o q t n is open_window ends =
       let st : StageOk g id active v.caller (Observing q t o.begin n q) = subst (StageOk g id active v.caller) is ok.stage in
       let old : WindowOk g o = subst (WindowFact g) open_window ok.window in
@@ -242,12 +249,12 @@ module _ (f : Form) (m : Memory) (views : List View) (id : ℕ) (v : View) (k : 
       let e : EntryMark = entry v.caller Snap (Numbers (map number_of (drop g.taken g.values))) in
       let at_low : (g.segs g.low).place ≡ o.first = ap (λ (z : ℕ). (g.segs z).place) st.6 ∙ old.first old.some in
       let range : (x : ℕ) → in_range x v.window ≡ in_range x (Some (full_window o.first q)) = (λ x. ap (in_range x) open_window ∙ (λ i. leb (sym st.6 i) x && ltb x (sym all i))) in (
-        subst (λ (z : (ℕ × ℕ) × ℕ). Kept f m (set views id (record v { seen = g.log ++ e ∷ []; joint = None; made = count_made v.paid v.made v.caller; paid = false; notes = blank; stage = Closed q t false; window = Some (record { begin = z.0.0; end = z.0.1; head = g.taken; tail = z.1; first = o.first; last = q; after = None }) }))) (λ i. ((st.6 i, all i), st.4 i))
+        subst (λ (z : (ℕ × ℕ) × ℕ). Kept f m (set views id (record v { seen = g.log ++ e ∷ []; joint = None; made = count_made v.paid v.made v.caller; paid = false; notes = blank; stage = Closed q t false; window = Some (record (window_over z.0.0 z.0.1 o.first q) { head = g.taken; tail = z.1 }) }))) (λ i. ((st.6 i, all i), st.4 i))
             (entry_kept f m views id v k at e refl (snap_next f.room f.first_len g.log g.values g.putters g.taken v.caller k.words.counts.stands small) may (Closed q t false) (st.0, st.1, st.2, st.3, st.4, st.5, λ z. absurd (true≢false (sym z))) (Some (full_window o.first q)) range (window_full o.first q at_low st.5 st.2 st.3)),
         st.4,
       )
 
-  -- observe end: the first segment of the window is let go, and the window is read no more
+  -- observe end: the first segment of the window is let go
   module _ (o : Window) (is : v.window ≡ Some o) (rest : Option Window) (told : (n : ℕ) → in_range n rest ≡ true → (o.begin < n) × (n < o.end)) (has : (n : ℕ) → o.begin < n → n < o.end → in_range n rest ≡ true) (fact : WindowFact g rest) where
     abbrev b : ℕ
     b = o.begin
@@ -371,38 +378,60 @@ module _ (f : Form) (m : Memory) (views : List View) (id : ℕ) (v : View) (k : 
           seen = ((λ e. e), inr refl);
         }
 
-  -- of a window with more than one segment the others are left, and it is read no more
+  -- the segments after the first one of a window
+  abbrev rest : Window → ℕ → Window
+  rest o r = record (window_over (suc o.begin) o.end r o.last) { head = left_from o.ends o.head o.tail; tail = o.tail }
+
+  -- the positions that they have
+  left_after : (o : Window) (x : WindowOk g o) → suc o.begin < o.end → (e : Option ℕ) → IfSome e (λ z. suc o.begin < o.end → (g.segs (suc o.begin)).start ≡ z) → (p : ℕ) → left_from e o.head o.tail ≤ p → p < o.tail
+      → (o.head ≤ p) × ((g.segs (suc o.begin)).start ≤ p)
+  left_after o x more None y p lo hi = absurd (omega arith)
+  left_after o x more (Some e) y p lo hi = let start = y more in ⊎_elim
+      (λ (l : o.head < e). let a : e ≤ p = subst (λ b. cond b e o.head ≤ p) (lt-ltb o.head e l) lo in (omega arith, omega arith))
+      (λ (l : e ≤ o.head). let a : o.head ≤ p = subst (λ b. cond b e o.head ≤ p) (le-ltb o.head e l) lo in (a, omega arith))
+      (cases_lt o.head e)
+
+  rest_ok : (o : Window) (r : ℕ) → WindowOk g o → suc o.begin < o.end → r ≡ (g.segs (suc o.begin)).place → WindowOk g (rest o r)
+  rest_ok o r x more there = record {
+    some = more;
+    opened = λ n y. x.opened n (wider n y);
+    behind = x.behind;
+    first = λ l. sym there;
+    last = λ n s l. x.last n s (let l' : suc o.begin ≤ n = l in omega arith);
+    after = tt;
+    ends = tt;
+    length = tt;
+    shown = tt;
+    there = λ p lo hi. let b = left_after o x more o.ends x.ends p lo hi in let t = x.there p b.0 hi in let n : ℕ = t.0 in let z = range_told o.begin o.end n t.2 in
+        let after : suc o.begin ≤ n = later n p z.0 b.1 t.4 in (n, t.1, range_is (suc o.begin) o.end n after z.1, t.3, t.4, t.5, t.6, t.7, t.8);
+  }
+    where
+      wider : (n : ℕ) → (leb (suc o.begin) n && ltb n o.end) ≡ true → (leb o.begin n && ltb n o.end) ≡ true
+      wider n y = let z = range_told (suc o.begin) o.end n y in let z' = z.0 in range_is o.begin o.end n (omega arith) z.1
+
+      later : (n p : ℕ) → o.begin ≤ n → (g.segs (suc o.begin)).start ≤ p → p < end_of g.segs g.last g.put n → suc o.begin ≤ n
+      later n p l start under = ⊎_elim
+          (λ (e : n ≡ o.begin). absurd (let second = (x.opened (suc o.begin) (range_is o.begin o.end (suc o.begin) (omega arith) more)).0 in
+          let u : p < (g.segs (suc o.begin)).start = subst (λ z. p < z) (ap (λ b. cond b g.put ((g.segs (suc o.begin)).start)) (ne_eqb o.begin g.last (omega arith))) (subst (λ z. p < end_of g.segs g.last g.put z) e under) in omega arith))
+          (λ (ne : n ≢ o.begin). omega arith)
+          (cases_eq n o.begin)
+
+  -- of a window with more than one segment the others are left
   pub more_left_kept : (o : Window) (r : ℕ) → v.window ≡ Some o → o.first ≢ o.last → o.after ≡ Some r
-      → Kept f (update m (Observers o.first) (m (Observers o.first) - 1)) (set views id (record v { window = Some (window_over (suc o.begin) o.end r o.last) }))
+      → Kept f (update m (Observers o.first) (m (Observers o.first) - 1)) (set views id (record v { window = Some (rest o r) }))
   more_left_kept o r is more next =
-      let x : WindowOk g o = subst (WindowFact g) is ok.window in let some_left : o.begin < o.end = x.some in
-      let beyond : suc o.begin < o.end = ⊎_elim (λ (l : suc o.begin < o.end). l) (λ (l : o.end ≤ suc o.begin). absurd (more (sym (x.first some_left) ∙ x.last o.begin (omega arith) (le_refl _)))) (cases_lt (suc o.begin) o.end) in
+      let x : WindowOk g o = subst (WindowFact g) is ok.window in let beyond = more_left g o x more in
       let there : r ≡ (g.segs (suc o.begin)).place = (subst (λ (z : Option ℕ). IfSome z (λ r. suc o.begin < o.end → r ≡ (g.segs (suc o.begin)).place)) next x.after) beyond in
-      subst (λ (z : ℕ). Kept f (update m (Observers z) (m (Observers z) - 1)) (set views id (record v { window = Some (window_over (suc o.begin) o.end r o.last) }))) (x.first some_left)
-      (ended_kept o is (Some (window_over (suc o.begin) o.end r o.last))
+      subst (λ (z : ℕ). Kept f (update m (Observers z) (m (Observers z) - 1)) (set views id (record v { window = Some (rest o r) }))) (x.first x.some)
+      (ended_kept o is (Some (rest o r))
       (λ n y. let z = range_told (suc o.begin) o.end n y in (z.0, z.1))
       (λ n l h. range_is (suc o.begin) o.end n l h)
-      record {
-        some = beyond;
-        opened = λ n y. let z = range_told (suc o.begin) o.end n y in let z' = z.0 in x.opened n (range_is o.begin o.end n (omega arith) z.1);
-        behind = (omega arith, omega arith);
-        first = λ l. sym there;
-        last = λ n s l. x.last n s (let l' : suc o.begin ≤ n = l in omega arith);
-        after = tt;
-        there = λ p lo hi. absurd (omega arith);
-      })
+      (rest_ok o r x beyond there))
 
   -- and of one with one segment nothing is left
   pub none_left_kept : (o : Window) → v.window ≡ Some o → o.first ≡ o.last
       → Kept f (update m (Observers o.first) (m (Observers o.first) - 1)) (set views id (record v { window = None }))
   none_left_kept o is same_place =
-      let x : WindowOk g o = subst (WindowFact g) is ok.window in let some_left : o.begin < o.end = x.some in
-      let least : o.end ≡ suc o.begin = ⊎_elim
-      (λ (l : suc o.begin < o.end). absurd (
-      let top : suc (o.end - 1) ≡ o.end = omega arith in
-      let a = x.opened o.begin (range_is o.begin o.end o.begin (le_refl _) some_left) in let c = x.opened (o.end - 1) (range_is o.begin o.end (o.end - 1) (omega arith) (omega arith)) in
-      let both : (g.segs o.begin).place ≡ (g.segs (o.end - 1)).place = x.first some_left ∙ (same_place ∙ sym (x.last (o.end - 1) (sym top) (omega arith))) in
-      let z : suc o.begin ≡ suc (o.end - 1) = sym a.1 ∙ (ap g.home both ∙ c.1) in omega arith))
-      (λ (l : o.end ≤ suc o.begin). omega arith) (cases_lt (suc o.begin) o.end) in
-      subst (λ (z : ℕ). Kept f (update m (Observers z) (m (Observers z) - 1)) (set views id (record v { window = None }))) (x.first some_left)
+      let x : WindowOk g o = subst (WindowFact g) is ok.window in let least = one_left g o x same_place in
+      subst (λ (z : ℕ). Kept f (update m (Observers z) (m (Observers z) - 1)) (set views id (record v { window = None }))) (x.first x.some)
       (ended_kept o is None (λ n y. absurd (true≢false (sym y))) (λ n l h. absurd (omega arith)) tt)

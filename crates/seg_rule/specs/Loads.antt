@@ -198,13 +198,34 @@ abbrev pub stage_after : QueueWord → ℕ → Notes → Stage → Stage
 stage_after (Observers p) x o s = found_at p x o.scan.candidate s
 stage_after _ x o s = s
 
-abbrev pub after_note : ℕ → ℕ → Option Window → Option Window
-after_note p x None = None
-after_note p x (Some w) = cond (eqb w.first p) (Some (record w { after = Some x })) (Some w)
+-- Notes on the first place of a window.
+
+-- of a window whose first place is p
+abbrev pub at_first : (Window → Window) → ℕ → Option Window → Option Window
+at_first f p None = None
+at_first f p (Some o) = cond (eqb o.first p) (Some (f o)) (Some o)
 
 abbrev pub window_after : QueueWord → ℕ → Option Window → Option Window
-window_after (Next p) x w = after_note p x w
+window_after (Tail p) x w = at_first (λ o. record o { ends = Some (x / 2) }) p w
+window_after (Length p) x w = at_first (λ o. record o { length = Some x }) p w
+window_after (Next p) x w = at_first (λ o. record o { after = Some x }) p w
+window_after (Number p i) x w = at_first (λ o. record o { shown = Some (i, x) }) p w
 window_after _ x w = w
+
+-- in a place of the length that was read, the position a has the slot i
+abbrev pub is_slot_by : Option ℕ → ℕ → ℕ → Bool
+is_slot_by None i a = false
+is_slot_by (Some n) i a = eqb (a % n) i
+
+-- the position a is below the end that was read, or the place is the last one
+abbrev pub is_inside : Bool → Option ℕ → ℕ → Bool
+is_inside true ends a = true
+is_inside false None a = false
+is_inside false (Some e) a = ltb a e
+
+-- the position a is one of the window and lies in the slot i of its first place, by what was read of that place
+abbrev pub lies_at : Window → ℕ → ℕ → Bool
+lies_at o i a = leb o.head a && (ltb a o.tail && (is_slot_by o.length i a && is_inside (eqb o.first o.last) o.ends a))
 
 -- The obstacles that a load meets.
 
@@ -270,6 +291,15 @@ obstacles st (Done p) x o = done_obstacles (has_closed st) p x o.scan.past o.sca
 obstacles st (Number p i) x o = not_free_obstacles p i x o.scan o.tail ++ (not_published_obstacles p i x o.head o.scan ++ unpublished_obstacles (has_turn st) p i x o.head o.scan)
 obstacles st _ x o = []
 
+-- the free number of a position of a window, in its first place, beside what else is met
+abbrev pub unpublished_too : ℕ → ℕ → ℕ → Option Window → List Obstacle → List Obstacle
+unpublished_too p i x None met = met
+unpublished_too p i x (Some o) met = met ++ met_if (eqb o.first p && (eqb (x % 2) 0 && lies_at o i (x / 2))) (Unpublished p (x / 2) x)
+
+abbrev pub window_obstacles : QueueWord → ℕ → Option Window → List Obstacle → List Obstacle
+window_obstacles (Number p i) x w met = unpublished_too p i x w met
+window_obstacles _ x w met = met
+
 -- First store: the next place p is first. Where it is the current one, it is past the head noted.
 abbrev pub end_noted : Option Candidate → Option ℕ
 end_noted None = None
@@ -312,7 +342,7 @@ begun w v = cond (begins_call w && is_at_rest v.hand v.stage v.window) (record v
 
 abbrev pub told : QueueWord → ℕ → View → View
 told w x v = record v {
-  met = v.met ++ obstacles v.stage w x v.notes;
+  met = v.met ++ window_obstacles w x v.window (obstacles v.stage w x v.notes);
   notes = noted v.stage w x v.notes;
   hand = hand_after w x v.hand;
   stage = stage_after w x v.notes v.stage;

@@ -10,12 +10,13 @@ use Rattle.seg_rule.specs.declared.view.View.{View}
 use Rattle.seg_rule.specs.Steps.{joined}
 use Rattle.seg_rule.specs.Loads.{begun, loaded, first_moved}
 use Rattle.seg_rule.specs.Entering.{EntersFull, EntersEmpty, EntersPeek, EntersCount}
-use Rattle.seg_rule.specs.Tells.{Told, Sees, sees_in_flight}
+use Rattle.seg_rule.specs.Tells.{Told, TellsWindow, Sees, sees_in_flight}
 
--- What a load of a word tells that read x: what it read before, that all that the pass has seen is legal, and the view that it leaves.
+-- What a load of a word tells that read x: what it read before, that all that the pass has seen is legal, what stands in its window, and the view that it leaves.
 pub record Reads (w : QueueWord) (x : ℕ) (v v' : View) : Type 0 where
   pub told : Told w x (begun w v)
   pub lawful : IsLawful number_priority v.object v.callers v.seen
+  pub window : IfSome v.window (TellsWindow w x v)
   pub sees : Sees (sees_in_flight w x v) (loaded w x v) v'
 
 abbrev pub looks : QueueWord → Step ℕ → Me ℕ View → ℕ → Me ℕ View → Type 0

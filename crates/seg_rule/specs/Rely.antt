@@ -7,13 +7,17 @@ use Rattle.passes.specs.Holders.{Holder}
 use Rattle.seg_rule.specs.declared.view.View.{View}
 use Rattle.seg_rule.specs.declared.view.Hand.{Hand}
 use Rattle.seg_rule.specs.declared.view.Hand.TheVariants.{Nothing, Reserved, Stored, Taking}
-use Rattle.seg_rule.specs.Slots.{free, full, holder}
+use Rattle.seg_rule.specs.Slots.{free, full, Cell, up, holder}
 use Rattle.seg_rule.specs.declared.form.Form.{Form}
 use Rattle.seg_rule.specs.Rule.{Ghosts, IsWhole, in_range, OutOfChain}
 
 -- the last segment is full, in another place than q
 abbrev pub IsLate : Ghosts → ℕ → Type 0
 IsLate g q = ((g.segs g.last).place ≢ q) × ((g.segs g.last).start + (g.segs g.last).len ≤ g.put)
+
+-- a slot keeps its position, and is published if it was
+abbrev pub StaysIn : Cell → Cell → Type 0
+StaysIn c c' = (c'.0 ≡ c.0) × (up c.1 ≤ up c'.1)
 
 -- what every step does, whoever makes it
 pub record Grows (g g' : Ghosts) : Type 0 where
@@ -31,8 +35,8 @@ pub record Grows (g g' : Ghosts) : Type 0 where
   pub free_stays : (q i : ℕ) → g.cells q i ≡ (g.put, free) → (g.put < g'.put) ⊎ ((g'.cells q i ≡ (g.put, free)) ⊎ IsLate g q)
   pub full_stays : (q i k : ℕ) → g.low ≤ k → k ≤ g.last → (g.segs k).place ≡ q → i < (g.segs k).len → g.cells q i ≡ (g.taken, full)
       → (g.taken < g'.taken) ⊎ ((g'.low ≤ k) × (g'.cells q i ≡ (g.taken, full)))
-  -- a position from the bar on stays in its slot
-  pub kept : (q i k : ℕ) → g.home q ≡ suc k → g.prep ≢ suc q → i < (g.segs k).len → g.bar k ≤ (g.cells q i).0 → (g'.cells q i).0 ≡ (g.cells q i).0
+  -- a position from the bar on stays in its slot, and stays published
+  pub kept : (q i k : ℕ) → g.home q ≡ suc k → g.prep ≢ suc q → i < (g.segs k).len → g.bar k ≤ (g.cells q i).0 → StaysIn (g.cells q i) (g'.cells q i)
 
 -- the place of a position in hand
 abbrev pub HandPlace : Hand → ℕ → Type 0

@@ -31,7 +31,7 @@ use Rattle.seg_layout.specs.Lengths.{IsFirstLength, IsSegmentLength, next_len_of
 use Rattle.seg_rule.specs.Words.{Memory, memory, words_of}
 use Rattle.seg_rule.specs.Object.{Stands}
 use Rattle.seg_rule.specs.Chain.{Seg, Segs, ChainOk, TailNote, end_of}
-use Rattle.seg_rule.specs.Slots.{free, writing, stored, full, reading, holder}
+use Rattle.seg_rule.specs.Slots.{free, writing, stored, full, reading, up, holder}
 use Rattle.seg_rule.specs.Places.{Cells, HomeOk, SlotsOk}
 
 abbrev pub object_of : Form → Object
@@ -340,14 +340,21 @@ StageOk g j active c (Linked q t) = HasTurn g j active c × (g.shut ≡ 0) × (g
 StageOk g j active c (Observing q t b n p) = HasTurn g j active c × (g.shut ≡ 1) × (g.prep ≡ 0) × (g.now ≡ g.last) × (g.put ≡ t) × ((g.segs g.last).place ≡ q)
     × (g.low ≡ b) × (b ≤ n) × (n ≤ g.last) × ((g.segs n).place ≡ p)
 
+-- the slot i of the first place of a window was read as x: a position of the window that is published there stays so
+abbrev pub ShownAt : Ghosts → Window → ℕ × ℕ → Type 0
+ShownAt g w y = (p : ℕ) → y.1 ≡ 2 * p + 1 → w.head ≤ p → p < w.tail → y.0 < (g.segs w.begin).len → ((g.cells ((g.segs w.begin).place) y.0).0 ≡ p) × (up (g.cells ((g.segs w.begin).place) y.0).1 ≡ 1) × (g.bar w.begin ≤ p)
+
 -- a window: its places show its segments, and each of its positions lies in one of them and is not released
 pub record WindowOk (g : Ghosts) (w : Window) : Type 0 where
   pub some : w.begin < w.end
   pub opened : (k : ℕ) → in_range k (Some w) ≡ true → (k ≤ g.last) × (g.home ((g.segs k).place) ≡ suc k) × (g.prep ≢ suc ((g.segs k).place)) × (k ≤ g.linked)
-  pub behind : (w.head ≤ g.taken) × (w.tail ≤ g.put)
+  pub behind : w.tail ≤ g.put
   pub first : w.begin < w.end → (g.segs w.begin).place ≡ w.first
   pub last : (k : ℕ) → w.end ≡ suc k → w.begin ≤ k → (g.segs k).place ≡ w.last
   pub after : IfSome w.after (λ p. suc w.begin < w.end → p ≡ (g.segs (suc w.begin)).place)
+  pub ends : IfSome w.ends (λ e. suc w.begin < w.end → (g.segs (suc w.begin)).start ≡ e)
+  pub length : IfSome w.length (λ n. n ≡ (g.segs w.begin).len)
+  pub shown : IfSome w.shown (ShownAt g w)
   pub there : (p : ℕ) → w.head ≤ p → p < w.tail
       → (k i : ℕ) × (in_range k (Some w) ≡ true) × ((g.segs k).start ≤ p) × (p < end_of g.segs g.last g.put k) × (i < (g.segs k).len) × (p % (g.segs k).len ≡ i) × ((g.cells ((g.segs k).place) i).0 ≡ p) × (g.bar k ≤ p)
 

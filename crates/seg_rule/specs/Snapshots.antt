@@ -1,5 +1,5 @@
 -- A snapshot's kinds of step: observe add, head look, observe end.
-use Rattle.std.specs.Prelude.{◌≡◌, ◌≢◌, ℕ, suc, ◌≤◌, ◌⊎◌, Bool, false, cond, eqb, List, [], ◌∷◌, ◌++◌, drop, map, Option, Some, None}
+use Rattle.std.specs.Prelude.{◌≡◌, ◌≢◌, ℕ, suc, ◌≤◌, ◌⊎◌, Bool, false, cond, eqb, ltb, List, [], ◌∷◌, ◌++◌, drop, map, Option, Some, None}
 use Rattle.atomic_table.specs.Table.{Me, Step}
 use Rattle.ho_base.specs.Marks.{number_of, number_priority}
 use Rattle.ho_model.specs.declared.marks.EntryMark.{EntryMark}
@@ -19,7 +19,7 @@ use Rattle.seg_rule.specs.Steps.{entered, no_scan, MayCount}
 
 -- a window that is not read yet, over the segments from b up to e, of which the first and the last lie in the places p and q
 abbrev pub window_over : ℕ → ℕ → ℕ → ℕ → Window
-window_over b e p q = record { begin = b; end = e; head = 0; tail = 0; first = p; last = q; after = None }
+window_over b e p q = record { begin = b; end = e; head = 0; tail = 0; first = p; last = q; after = None; ends = None; length = None; shown = None }
 
 -- with the tail of the place q closed at t, the segments from b up to and with n are observed, of which the first and the last lie in the places p and r
 abbrev pub observing : View → ℕ → ℕ → ℕ → ℕ → ℕ → ℕ → View
@@ -87,7 +87,7 @@ looked_stage s = s
 
 -- the window has the positions from the head h up to that tail
 abbrev pub looked_window : ℕ → Stage → Option Window → Option Window
-looked_window h (Observing q t b n p) (Some o) = Some (record { begin = o.begin; end = o.end; head = h; tail = t; first = o.first; last = p; after = None })
+looked_window h (Observing q t b n p) (Some o) = Some (record (window_over o.begin o.end o.first p) { head = h; tail = t })
 looked_window h _ w = w
 
 -- the numbers of all items that a history leaves of which h were taken
@@ -115,10 +115,15 @@ pub record MayEnd (v : View) (p : ℕ) : Type 0 where
   pub first : seen.first ≡ p
   pub next : seen.first ≢ seen.last → (r : ℕ) × (seen.after ≡ Some r)
 
--- the segments after the first one, of which the next lies in this place
+-- the first position from h up to t that the places after the first one have. Where its end was not read, none is known
+abbrev pub left_from : Option ℕ → ℕ → ℕ → ℕ
+left_from None h t = t
+left_from (Some e) h t = cond (ltb h e) e h
+
+-- the segments after the first one, of which the next lies in this place, and their positions
 abbrev pub rest_of : Window → Option ℕ → Option Window
 rest_of o None = None
-rest_of o (Some r) = Some (window_over (suc o.begin) o.end r o.last)
+rest_of o (Some r) = Some (record (window_over (suc o.begin) o.end r o.last) { head = left_from o.ends o.head o.tail; tail = o.tail })
 
 abbrev pub ended : Option Window → Option Window
 ended None = None

@@ -1,14 +1,15 @@
 -- What steps tell beside the view that they leave.
-use Rattle.std.specs.Prelude.{◌+◌, ◌≡◌, ◌≢◌, ℕ, ◌*◌, ◌%◌, ◌^◌, ◌<◌, ◌≤◌, ◌⊎◌, ◌&&◌, Bool, true, false, List, Some, None, slice_get, IfSome}
+use Rattle.std.specs.Prelude.{◌+◌, ◌≡◌, ◌≢◌, ℕ, suc, ◌*◌, ◌%◌, ◌^◌, ◌<◌, ◌≤◌, ◌⊎◌, ◌&&◌, Bool, true, false, List, [], ◌∷◌, length, Some, None, slice_get, IfSome}
 use Rattle.ho_base.specs.Marks.{number_priority}
 use Rattle.ho_model.specs.declared.marks.EntryMark.{EntryMark}
-use Rattle.ho_model.specs.Enqueues.{putters_of}
+use Rattle.ho_model.specs.Enqueues.{values_of, putters_of}
 use Rattle.ho_model.specs.Tallies.{tally_of}
 use Rattle.passes.specs.Numbers.{HasNumber}
 use Rattle.passes.specs.Seen.{SeesOthers, IsLawful}
 use Rattle.seg_rule.specs.declared.word.QueueWord.{QueueWord}
-use Rattle.seg_rule.specs.declared.word.QueueWord.TheVariants.{Head, Current, First, Tail, Length, Next, Segment, Number}
+use Rattle.seg_rule.specs.declared.word.QueueWord.TheVariants.{Head, Current, First, Tail, Length, Next, Segment, Number, Item}
 use Rattle.seg_rule.specs.declared.view.View.{View}
+use Rattle.seg_rule.specs.declared.view.Window.{Window}
 use Rattle.seg_rule.specs.declared.view.Stage.TheVariants.{Plain}
 use Rattle.seg_rule.specs.declared.view.Hand.{Hand}
 use Rattle.seg_rule.specs.declared.view.Hand.TheVariants.{Nothing, Reserved, Stored}
@@ -16,7 +17,7 @@ use Rattle.ho_model.specs.declared.objects.Object.{Object}
 use Rattle.ho_model.specs.declared.objects.Object.TheVariants.{Queue}
 use Rattle.seg_layout.specs.Lengths.{IsSegmentLength, longest_of, places_of}
 use Rattle.seg_rule.specs.Rule.{IsWhole}
-use Rattle.seg_rule.specs.Loads.{has_turn, has_closed, is_front_slot, is_free_by}
+use Rattle.seg_rule.specs.Loads.{has_turn, has_closed, is_front_slot, is_free_by, lies_at}
 
 -- another word than the one noted is above it, and there is another caller
 abbrev pub IsAbove : View → ℕ → ℕ → Type 0
@@ -92,6 +93,24 @@ pub record IsInFlight (v : View) (position : ℕ) (history : List EntryMark) : T
   pub not_taken : (tally_of history).taken ≤ position
   pub not_held : ¬ HasNumber v.held putter
   pub not_whole : ¬ IsWhole v
+
+-- What was seen of the history has at the position a the item y, if it has that position.
+abbrev pub SeesItem : View → ℕ → ℕ → Type 0
+SeesItem v a y = a < length (values_of v.seen) → slice_get (values_of v.seen) a ≡ Some (y ∷ [])
+
+-- The same of the caller who put an item there: its number is not held, so that there is another caller.
+pub record SeesPutter (v : View) (a : ℕ) : Type 0 where
+  pub putter : ℕ
+  pub enqueued : a < length (values_of v.seen) → slice_get (putters_of v.seen) a ≡ Some putter
+  pub not_held : ¬ HasNumber v.held putter
+  pub not_whole : ¬ IsWhole v
+
+-- What a load that reads x tells a pass of its window o, by what was read of the first place. Where that is not the last one its tail is closed, and segments follow. The slot of a position that lies in it shows the published number, or else the free one, while another caller is about to publish it. The item beside the published number is the one that was seen.
+pub record TellsWindow (w : QueueWord) (x : ℕ) (v : View) (o : Window) : Type 0 where
+  pub closed : w ≡ Tail o.first → o.first ≢ o.last → x % 2 ≡ 1
+  pub more : w ≡ Next o.first → o.first ≢ o.last → suc o.begin < o.end
+  pub number : (i a : ℕ) → w ≡ Number o.first i → v.hand ≡ Nothing → lies_at o i a ≡ true → (x ≡ 2 * a + 1) ⊎ ((x ≡ 2 * a) × SeesPutter v a)
+  pub item : (i a : ℕ) → w ≡ Item o.first i → lies_at o i a ≡ true → o.shown ≡ Some (i, 2 * a + 1) → SeesItem v a x
 
 -- A load leaves this view. Where it sees the position at the head in flight, the pass sees the whole history by it.
 abbrev pub Sees : Bool → View → View → Type 0

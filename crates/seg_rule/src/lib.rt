@@ -25,15 +25,14 @@
 //! A snapshot is taken under the turn, with the tail closed: *observe add* of each place from the first
 //! to the current one, then *head look*, whose entry has the whole queue as its reply. The pass has its
 //! positions in a *window* from then on. They stay in their slots until *observe end* lets their place
-//! go, since a take that reads observers does not release. At most 64 windows are over a place: each
-//! is of a pass that holds its own number.
+//! go, since a take that reads observers does not release. Their items are read place by place: each
+//! load of the window's first place tells what it says of them (`TellsWindow` of `specs/Tells.antt`).
+//! At most 64 windows are over a place: each is of a pass that holds its own number.
 //!
-//! What no clause says yet: what a load of a slot in the window tells of the snapshot's items
-//! (`proofs/Snapshots.antt` has it of the rule); that notes do not outlive a call which begins with
-//! another word than the first or the current place, or with the turn; what a load of the turn, of a
-//! start or of a count of takes read, where the pass notes nothing of it; and that the next length
-//! was chosen by whether the place is observed. `paid` stays true from a turn to the entry or to the
-//! next call.
+//! What no clause says yet: that notes do not outlive a call which begins with another word than the
+//! first or the current place, or with the turn; what a load of the turn, of a start or of a count of
+//! takes read, where the pass notes nothing of it; and that the next length was chosen by whether the
+//! place is observed. `paid` stays true from a turn to the entry or to the next call.
 //!
 //! It stands on `atomic_table`, where each step is sequentially consistent, on `seg_layout` for the
 //! layout, on `passes` for the numbers of passes and on `ho_model`, which says what a queue is.

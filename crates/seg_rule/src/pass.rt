@@ -55,6 +55,7 @@ impl Here {
     }
 
     /// After a load of this word that read this value.
+    #[inline(always)]
     pub(crate) fn read(self, word: &QueueWord, value: u64) -> Here
         ensures { result ≡ here_after word.now value self }
     {

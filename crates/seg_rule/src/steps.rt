@@ -171,6 +171,7 @@ pub(crate) fn tail_open(board: &Board, slots: u32, seat: &mut Seat, place: u32, 
     board.store::<Open>(seat, word, 2 * position);
 }
 
+#[inline(always)]
 fn load_of<J: Aim>(board: &Board, slots: u32, seat: &mut Seat, word: &QueueWord) -> u64
     requires aim { J.word ≡ word.now }
     requires table { IsFor board.now.table_id board.now.key seat.old × (board.now.key.slots ≡ slots) }
@@ -183,6 +184,7 @@ fn load_of<J: Aim>(board: &Board, slots: u32, seat: &mut Seat, word: &QueueWord)
 }
 
 /// Loads a word, and notes what it tells.
+#[inline(always)]
 pub(crate) fn load(board: &Board, slots: u32, seat: &mut Seat, word: QueueWord) -> u64
     requires table { IsFor board.now.table_id board.now.key seat.old × (board.now.key.slots ≡ slots) }
     requires word { IsWord board.now.key.places slots word }

@@ -8,7 +8,7 @@ ghost use Rattle.seg_rule.specs.Rule.{IsShape};
 ghost use Rattle.seg_layout.specs.Lengths.{IsFirstLength, longest_of, places_of};
 ghost use Rattle.seg_rule.specs.Loads.{MayMove, first_moved};
 ghost use Rattle.seg_rule.specs.declared.word.QueueWord.TheVariants.{Head, Tail};
-ghost use Rattle.seg_rule.specs.Words.{IsWord};
+ghost use Rattle.seg_rule.specs.Words.{IsWord, words_of};
 ghost use Rattle.seg_rule.specs.Entering.{MayEnterFull, EntersFull, MayEnterEmpty, EntersEmpty, MayEnterPeek, EntersPeek, MayEnterCount, EntersCount};
 ghost use Rattle.seg_rule.specs.Plays.{Reads, Decided};
 ghost use Rattle.seg_rule.specs.Looks.{MayLook, MayLoad, Loads};
@@ -92,6 +92,7 @@ impl QueueTable {
     pub fn form(&self) -> Form
         ensures value { result ≡ self.now.form }
         ensures shape { IsShape self.now.form }
+        ensures words { self.now.table.words ≡ words_of self.now.form.places self.now.form.slots }
     {
         self.form
     }
@@ -342,6 +343,7 @@ impl QueueTable {
     }
 
     /// A load that makes no entry.
+    #[inline(always)]
     fn look(&self, pass: &mut QueuePass, word: QueueWord) -> u64
         requires of { IsOf self.now pass.old }
         requires word { IsWord self.now.form.places self.now.form.slots word }
@@ -355,6 +357,7 @@ impl QueueTable {
     }
 
     /// Loads the head for an enqueue.
+    #[inline(always)]
     fn look_full(&self, pass: &mut QueuePass, value: u64, tail: u64) -> u64
         requires of { IsOf self.now pass.old }
         requires may { MayEnterFull pass.old.view tail }
@@ -380,6 +383,7 @@ impl QueueTable {
     }
 
     /// Loads a tail for a peek or a dequeue.
+    #[inline(always)]
     fn look_empty(&self, pass: &mut QueuePass, place: u32, head: u64, peek: bool) -> u64
         requires of { IsOf self.now pass.old }
         requires place { place < self.now.form.places }
@@ -405,6 +409,7 @@ impl QueueTable {
     }
 
     /// Loads the head for a peek.
+    #[inline(always)]
     fn look_front(&self, pass: &mut QueuePass, head: u64, item: u64) -> u64
         requires of { IsOf self.now pass.old }
         requires may { MayEnterPeek pass.old.view head item }
@@ -427,6 +432,7 @@ impl QueueTable {
     }
 
     /// Loads the head for a count.
+    #[inline(always)]
     fn look_count(&self, pass: &mut QueuePass, tail: u64) -> u64
         requires of { IsOf self.now pass.old }
         requires may { MayEnterCount pass.old.view tail }
@@ -451,6 +457,12 @@ impl QueueTable {
     /// place or of the first one by a pass at rest begins a call, and forgets what was read before. What
     /// the pass has seen is legal; a second head or open tail above the one that was read before is an
     /// obstacle, and tells that there is another caller.
+    ///
+    /// A pass with a window reads its items in the first place of it: by the length, and by the closed
+    /// tail where segments follow, it knows which of its positions lie there. The number of such a slot
+    /// is the published one, and the item beside it is then the one that was seen; or the free one, which
+    /// is an obstacle, and tells that another caller has the position in flight.
+    #[inline(always)]
     pub fn load(&self, pass: &mut QueuePass, word: QueueWord, entering: Entering) -> u64
         requires of { IsOf self.now pass.old }
         requires word { IsWord self.now.form.places self.now.form.slots word }
@@ -625,7 +637,8 @@ impl QueueTable {
     }
 
     /// Lets the first place of the window go, of which the next word was read, if it is not the last.
-    /// The window is then over the places after it, and has no position any more.
+    /// The window is then over the places after it, and has the positions from the closed tail of the
+    /// first on, if that was read; else it has none any more.
     pub fn observe_end(&self, pass: &mut QueuePass, place: u32)
         requires of { IsOf self.now pass.old }
         requires place { place < self.now.form.places }

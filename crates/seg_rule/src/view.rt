@@ -105,8 +105,8 @@ pub struct Notes {
 }
 
 /// A snapshot of the positions from `head` up to `tail`, in the segments numbered from `begin` up to
-/// `end`, of which the first and the last lie in these places. Until the snapshot is taken, and once
-/// its first segment was let go, `head` and `tail` have no meaning and are 0.
+/// `end`, of which the first and the last lie in these places; and what was read of the first place.
+/// Until the snapshot is taken, `head` and `tail` have no meaning and are 0.
 pub struct Window {
     pub begin: u64,
     pub end: u64,
@@ -116,6 +116,12 @@ pub struct Window {
     pub last: u64,
     /// The place after the first one.
     pub after: Option<u64>,
+    /// The position at which the tail of the first place stands: its end, if it is not the last.
+    pub ends: Option<u64>,
+    /// The length of the first place.
+    pub length: Option<u64>,
+    /// The slot of the first place whose number was read last, and that number.
+    pub shown: Option<(u64, u64)>,
 }
 
 /// Why a try gave no answer: what steps of one call have read.

@@ -2,9 +2,7 @@
 ghost use Rattle.std.specs.Prelude.{◌≡◌, ◌+◌, ◌^◌, ◌<◌, ◌≤◌, IfOk};
 ghost use Rattle.ho_model.specs.declared.objects.Object.TheVariants as object;
 
-use crate::{
-    ConcurrentQueue, DequeueReply, EnqueueReply, QueueCall, QueueMachine, QueueRefused, QueueReply,
-};
+use crate::{QueueCall, QueueMachine, QueueReply};
 use ho_base::Receipt;
 use ho_model::Machine;
 use std::alloc::Global;
@@ -102,102 +100,5 @@ fn a_shared_machine_makes_snapshots(rt: HostRuntime) -> Result<(), Fail> {
     assert!(rt;
         matches!(queue.call(&rt, &mut pass, Call::Snap), Ok((Reply::Numbers(items), _)) if items.as_slice() == [7].as_slice())
     );
-    Ok(())
-}
-
-fn at(position: u64) -> Receipt {
-    Receipt::Enqueued {
-        position,
-        segment: 0,
-    }
-}
-
-fn looked(head: u64, tail: u64) -> Receipt {
-    Receipt::Looked { head, tail }
-}
-
-/// Why no queue for one caller is made, if none is.
-fn refused(rt: &HostRuntime, room: u32, first_len: u32) -> Option<QueueRefused> {
-    match ConcurrentQueue::new(rt.alloc(), room, first_len, 1) {
-        Ok(_) => None,
-        Err(refused) => Some(refused),
-    }
-}
-
-#[test]
-fn receipts_tell_the_counts_before(rt: HostRuntime) -> Result<(), Fail> {
-    let Ok((queue, mut pass)) = ConcurrentQueue::new(rt.alloc(), 2, 2, 1) else {
-        assert!(rt; false);
-        return Ok(());
-    };
-    assert_eq!(rt; queue.room(), 2);
-    assert_eq!(rt;
-        queue.enqueue(&rt, &mut pass, 7),
-        (EnqueueReply::Done, at(0))
-    );
-    assert_eq!(rt;
-        queue.enqueue(&rt, &mut pass, 8),
-        (EnqueueReply::Done, at(1))
-    );
-    assert_eq!(rt;
-        queue.enqueue(&rt, &mut pass, 9),
-        (EnqueueReply::Full, looked(0, 2))
-    );
-    assert_eq!(rt;
-        queue.peek(&rt, &mut pass),
-        (DequeueReply::Item(7), Receipt::Peeked { position: 0 })
-    );
-    assert_eq!(rt;
-        queue.dequeue(&rt, &mut pass),
-        (DequeueReply::Item(7), Receipt::Dequeued { position: 0 })
-    );
-    assert_eq!(rt;
-        queue.enqueue(&rt, &mut pass, 9),
-        (EnqueueReply::Done, at(2))
-    );
-    assert_eq!(rt; queue.count(&rt, &mut pass), (2, looked(1, 3)));
-    assert_eq!(rt;
-        queue.dequeue(&rt, &mut pass),
-        (DequeueReply::Item(8), Receipt::Dequeued { position: 1 })
-    );
-    assert_eq!(rt;
-        queue.dequeue(&rt, &mut pass),
-        (DequeueReply::Item(9), Receipt::Dequeued { position: 2 })
-    );
-    assert_eq!(rt;
-        queue.dequeue(&rt, &mut pass),
-        (DequeueReply::Empty, looked(3, 3))
-    );
-    assert_eq!(rt;
-        queue.peek(&rt, &mut pass),
-        (DequeueReply::Empty, looked(3, 3))
-    );
-    Ok(())
-}
-
-#[test]
-fn rooms_and_lengths_are_refused_in_order(rt: HostRuntime) -> Result<(), Fail> {
-    assert_eq!(rt; refused(&rt, 0, 2), Some(QueueRefused::BadRoom));
-    assert_eq!(rt; refused(&rt, 65_537, 3), Some(QueueRefused::BadRoom));
-    assert_eq!(rt; refused(&rt, 8, 3), Some(QueueRefused::BadLength));
-    assert_eq!(rt; refused(&rt, 8, 1), Some(QueueRefused::BadLength));
-    assert_eq!(rt; refused(&rt, 8, 2_048), Some(QueueRefused::BadLength));
-    assert_eq!(rt; refused(&rt, 65_536, 1_024), None);
-    Ok(())
-}
-
-#[test]
-fn passes_split_and_join(rt: HostRuntime) -> Result<(), Fail> {
-    let Ok((queue, mut a)) = ConcurrentQueue::new(rt.alloc(), 4, 2, 2) else {
-        assert!(rt; false);
-        return Ok(());
-    };
-    let mut b = queue.split(&mut a);
-    assert_eq!(rt; b.caller(), 1);
-    assert_eq!(rt; b.spare(), 0);
-    assert_eq!(rt; queue.enqueue(&rt, &mut b, 5).0, EnqueueReply::Done);
-    assert_eq!(rt; queue.dequeue(&rt, &mut a).0, DequeueReply::Item(5));
-    queue.join(&mut a, b);
-    assert_eq!(rt; a.spare(), 1);
     Ok(())
 }

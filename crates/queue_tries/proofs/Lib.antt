@@ -1,0 +1,10 @@
+pub mod Walks
+pub mod Moving
+pub mod Placing
+pub mod Growing
+pub mod Enqueuing
+pub mod Fronting
+pub mod Searching
+pub mod Counting
+pub mod Repeating
+pub mod Worked

@@ -1,0 +1,13 @@
+pub mod Causes
+pub mod Tries
+pub mod Walks
+pub mod Tails
+pub mod Scans
+pub mod Growth
+pub mod Enqueues
+pub mod Firsts
+pub mod Fronts
+pub mod Dequeues
+pub mod Counts
+pub mod Lasting
+pub mod Loads
