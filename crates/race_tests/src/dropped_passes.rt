@@ -457,3 +457,40 @@ fn callers_of_a_queue_go_on(rt: HostRuntime) -> Result<(), Fail> {
     assert!(rt; go_on::<ConcurrentQueue, HostRuntime>(&rt, rt.alloc(), receipts)?);
     Ok(())
 }
+
+// A queue's pass can't be asked whether it is whole, and the queue has no `close`: so a dropped pass takes
+// nothing away that the others had.
+#[test]
+fn an_item_of_a_dropped_pass_is_dequeued(rt: HostRuntime) -> Result<(), Fail> {
+    let Ok((queue, mut first)) = ConcurrentQueue::new(rt.alloc(), 2, 2, 2) else {
+        return Err(Fail::new("no queue"));
+    };
+    let Some(mut other) = split_queue(&queue, &mut first) else {
+        return Err(Fail::new("no number is left"));
+    };
+    let (enqueued, _) = queue.enqueue(&rt, &mut other, 7);
+    assert!(rt; matches!(enqueued, EnqueueReply::Done));
+    drop(other);
+    let (dequeued, _) = queue.dequeue(&rt, &mut first);
+    assert!(rt; matches!(dequeued, DequeueReply::Item(7)));
+    Ok(())
+}
+
+#[test]
+fn no_pass_is_whole_once_one_is_dropped(rt: HostRuntime) -> Result<(), Fail> {
+    let state: ChannelState<u64> = ChannelState::bounded(rt.alloc(), 1, Mode::Wait, 2)?;
+    let Ok((shared, mut first)) = Shared::new(rt.alloc(), state, 2) else {
+        return Err(Fail::new("no memory"));
+    };
+    assert!(rt; first.is_whole());
+    assert!(rt; first.has_spare());
+    let other = shared.split(&mut first);
+    drop(other);
+    assert!(rt; !first.is_whole());
+    let written = shared.call(&rt, &mut first, ChannelCall::Write(4));
+    assert!(rt; matches!(&written, Ok((ChannelReply::Done, Receipt::Place { number: 0 }))));
+    let read = shared.call(&rt, &mut first, ChannelCall::Read);
+    assert!(rt; matches!(&read, Ok((ChannelReply::Item(4), Receipt::Place { number: 1 }))));
+    assert!(rt; !first.is_whole());
+    Ok(())
+}

@@ -85,7 +85,7 @@ fn plain(alloc: Global, pipe: &[u8], records: &[u8]) -> Result<(Status, Vec<u8>)
 
 #[test]
 fn pipelines_and_records_give_their_text(rt: HostRuntime) -> Result<(), Fail> {
-    let table: [(&[u8], &[u8], Status, &[u8]); 13] = [
+    let table: [(&[u8], &[u8], Status, &[u8]); 15] = [
         (
             ONE_STAGE,
             b"",
@@ -148,6 +148,19 @@ fn pipelines_and_records_give_their_text(rt: HostRuntime) -> Result<(), Fail> {
             b"spec,p,0,4\n",
         ),
         (b"", b"", Status::SpecRefused, b"spec,p,0,6\n"),
+        // a pipeline that was cut off, in the middle of a line and before its first stage
+        (
+            b"# orders above 100, with 20 added\njoint wait 64\nstage ke",
+            b"",
+            Status::SpecRefused,
+            b"spec,p,2,3\n",
+        ),
+        (
+            b"# orders above 100, with 20 added\njoint wait 64\n",
+            b"",
+            Status::SpecRefused,
+            b"spec,p,2,6\n",
+        ),
         (
             b"stage cut 0\n",
             b"a,b\nc\n",
@@ -288,8 +301,8 @@ fn what_is_too_large_is_named(rt: HostRuntime) -> Result<(), Fail> {
 fn a_failed_fetch_writes_nothing(rt: HostRuntime) -> Result<(), Fail> {
     let alloc = rt.alloc();
     let words = words_of(alloc, &[b"plain", b"p", b"f"])?;
-    // Each file takes one fetch for its bytes and one that finds its end.
-    for call in 0..5 {
+    // Each file takes one fetch for its bytes and one that finds its end, so four in all.
+    for call in 0..8 {
         let mut shelf = failing_shelf(alloc, &[(b"p", PIPELINE), (b"f", RECORDS)], call)?;
         let mut out = FreeSink::new(alloc, 64);
         let status = run_at_once(alloc, &words, &mut shelf, &mut out);
@@ -350,19 +363,19 @@ fn a_second_put_that_fails_leaves_the_first_piece(rt: HostRuntime) -> Result<(),
 fn a_failed_put_leaves_the_front_of_the_text(rt: HostRuntime) -> Result<(), Fail> {
     let alloc = rt.alloc();
     let words = words_of(alloc, &[b"plain", b"p", b"f"])?;
-    // The text has 57 bytes, so eight puts of 8 bytes at most.
-    for call in 0..9usize {
+    // The text has 57 bytes, so twelve puts of 5 bytes at most.
+    for call in 0..31usize {
         let mut shelf = shelf_of(alloc, PIPELINE, RECORDS)?;
-        let mut out = MemSink::new(alloc, 8);
+        let mut out = MemSink::new(alloc, 5);
         out.fail_at(call as u64)?;
         let status = run_at_once(alloc, &words, &mut shelf, &mut out);
-        let want = if call < 8 {
+        let want = if call < 12 {
             Status::WriteFault
         } else {
             Status::Done
         };
         assert_eq!(rt; status, want, "at put {call}");
-        assert_eq!(rt; out.taken(), &TEXT[..(8 * call).min(57)], "at put {call}");
+        assert_eq!(rt; out.taken(), &TEXT[..(5 * call).min(57)], "at put {call}");
     }
     Ok(())
 }
