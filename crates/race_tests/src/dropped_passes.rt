@@ -488,9 +488,19 @@ fn no_pass_is_whole_once_one_is_dropped(rt: HostRuntime) -> Result<(), Fail> {
     drop(other);
     assert!(rt; !first.is_whole());
     let written = shared.call(&rt, &mut first, ChannelCall::Write(4));
-    assert!(rt; matches!(&written, Ok((ChannelReply::Done, Receipt::Place { number: 0 }))));
+    assert!(rt;
+        matches!(
+            &written,
+            Ok((ChannelReply::Done, Receipt::Place { number: 0 }))
+        )
+    );
     let read = shared.call(&rt, &mut first, ChannelCall::Read);
-    assert!(rt; matches!(&read, Ok((ChannelReply::Item(4), Receipt::Place { number: 1 }))));
+    assert!(rt;
+        matches!(
+            &read,
+            Ok((ChannelReply::Item(4), Receipt::Place { number: 1 }))
+        )
+    );
     assert!(rt; !first.is_whole());
     Ok(())
 }

@@ -20,6 +20,8 @@ mod dropped_passes;
 #[cfg(test)]
 mod lags;
 #[cfg(test)]
+mod queue_once;
+#[cfg(test)]
 mod queues;
 #[cfg(test)]
 mod splits;
