@@ -71,14 +71,6 @@ impl Notes {
         self.lost = self.lost.wrapping_add(1);
     }
 
-    /// Whether the last answer was an item.
-    pub fn ends_with_an_item(&self) -> bool {
-        match self.notes.last() {
-            Some(note) => matches!(note.answer, Answer::Took { .. }),
-            None => false,
-        }
-    }
-
     /// The notes of all threads. None where one of them has none, or for want of memory.
     pub fn of_all(alloc: Global, outcomes: Vec<Option<Notes>>) -> Option<Notes> {
         let mut all = Notes::new(alloc);

@@ -5,7 +5,7 @@ ghost use Rattle.std.specs.Prelude.{◌≡◌, ◌<◌, ◌≤◌};
 use crate::bag_notes::{Answer, Notes, are_history};
 use crate::splits::split_bag;
 use concurrent_bag::{
-    BagAdd, BagAddOnce, BagAgain, BagPass, BagTake, BagTakeOnce, ConcurrentBag,
+    BagAdd, BagAddOnce, BagAgain, BagPass, BagTake, BagTakeOnce, ConcurrentBag, Receipt,
 };
 use races::{Countdown, Race, Tally, share};
 use std::alloc::Global;
@@ -70,7 +70,7 @@ fn add<R: Wait>(
     }
 }
 
-/// Whether the number was added. False where another caller held the list.
+/// Whether the number was added, and not the list held by another caller.
 fn try_add(
     bag: &ConcurrentBag<u64>,
     pass: &mut BagPass,
@@ -112,35 +112,50 @@ fn add_by_tries<R: Wait>(
     add(rt, bag, pass, notes, number)
 }
 
-/// What a take is noted as.
-fn taken(reply: BagTake<u64>) -> Answer {
-    match reply {
-        BagTake::Item { from, item } => Answer::Took { from, item },
-        BagTake::Empty => Answer::Empty,
-    }
+/// Notes what a take was answered. Whether that was an item.
+fn note_take(
+    notes: &mut Notes,
+    receipt: Receipt,
+    caller: u32,
+    reply: BagTake<u64>,
+) -> Option<bool> {
+    let (answer, is_item) = match reply {
+        BagTake::Item { from, item } => (Answer::Took { from, item }, true),
+        BagTake::Empty => (Answer::Empty, false),
+    };
+    notes.push(receipt, caller, answer)?;
+    Some(is_item)
 }
 
+/// Whether an item was taken, and the bag not empty.
 fn take<R: Wait>(
     rt: &R,
     bag: &ConcurrentBag<u64>,
     pass: &mut BagPass,
     notes: &mut Notes,
-) -> Option<()>
+) -> Option<bool>
     requires { pass.old.table ≡ bag.now }
     ensures { pass.new.table ≡ bag.now }
 {
     let (reply, receipt) = bag.take(rt, pass);
-    notes.push(receipt, pass.caller(), taken(reply))
+    note_take(notes, receipt, pass.caller(), reply)
 }
 
-fn try_take(bag: &ConcurrentBag<u64>, pass: &mut BagPass, notes: &mut Notes) -> Option<()>
+/// Whether an item was taken.
+fn try_take(bag: &ConcurrentBag<u64>, pass: &mut BagPass, notes: &mut Notes) -> Option<bool>
     requires { pass.old.table ≡ bag.now }
     ensures { pass.new.table ≡ bag.now }
 {
     match bag.take_once(pass) {
-        BagTakeOnce::Answer(reply, receipt) => notes.push(receipt, pass.caller(), taken(reply)),
-        BagTakeOnce::Again(BagAgain::Held) => Some(notes.count_held()),
-        BagTakeOnce::Again(BagAgain::Lost) => Some(notes.count_lost()),
+        BagTakeOnce::Answer(reply, receipt) => note_take(notes, receipt, pass.caller(), reply),
+        BagTakeOnce::Again(BagAgain::Held) => {
+            notes.count_held();
+            Some(false)
+        }
+        BagTakeOnce::Again(BagAgain::Lost) => {
+            notes.count_lost();
+            Some(false)
+        }
         BagTakeOnce::Spent => None,
     }
 }
@@ -197,12 +212,12 @@ impl Trying {
             if self.left.is_over() {
                 return Some(notes);
             }
-            if once {
-                try_take(&self.bag, &mut pass, &mut notes)?;
+            let is_item = if once {
+                try_take(&self.bag, &mut pass, &mut notes)?
             } else {
-                take(rt, &self.bag, &mut pass, &mut notes)?;
-            }
-            if notes.ends_with_an_item() {
+                take(rt, &self.bag, &mut pass, &mut notes)?
+            };
+            if is_item {
                 self.left.count_off();
             } else {
                 thread::yield_now();
