@@ -12,7 +12,7 @@ use Rattle.bag_rule.specs.declared.view.View.{View}
 use Rattle.bag_rule.specs.declared.view.Hand.{Hand}
 use Rattle.bag_rule.specs.declared.view.Hand.TheVariants.{Away, Kept}
 use Rattle.bag_rule.specs.declared.view.Obstacle.{Obstacle}
-use Rattle.bag_rule.specs.declared.view.Obstacle.TheVariants.{Held, Bare, Event}
+use Rattle.bag_rule.specs.declared.view.Obstacle.TheVariants.{Held, Bare, Stocked, Event, Missed}
 
 abbrev pub hand_at : View → ℕ → Hand
 hand_at v list = slice_index_or v.keeps list Away
@@ -38,12 +38,12 @@ IsWhole v = HasAll v.callers v.held
 
 -- List take: it keeps the list, in which these items were.
 
-abbrev pub found_bare : ℕ → List Mark → List Obstacle
-found_bare list [] = Bare list ∷ []
-found_bare list (item ∷ items) = []
+abbrev pub found : ℕ → List Mark → Obstacle
+found list [] = Bare list
+found list (item ∷ items) = Stocked list
 
 abbrev pub took_list : View → ℕ → List Mark → View
-took_list v list items = record v { keeps = slice_set v.keeps list (Kept items); met = v.met ++ found_bare list items }
+took_list v list items = record v { keeps = slice_set v.keeps list (Kept items); met = v.met ++ found list items ∷ [] }
 
 -- it found a list in the hand of another caller
 abbrev pub held_by : View → ℕ → ℕ → View
@@ -58,13 +58,14 @@ noted bare list _ = bare
 abbrev pub left_list : View → ℕ → View
 left_list v list = record v { keeps = slice_set v.keeps list Away; bare = noted v.bare list (hand_at v list) }
 
--- Loads of the event word: the first of a take, one after it, and an exchange that is lost.
+-- Loads of the event word: the first of a take, and one after it. And an exchange that is lost, from
+-- the word that was read last.
 
 abbrev pub missed : View → ℕ → ℕ → View
-missed v events items = record v { met = v.met ++ Event events items ∷ [] }
+missed v events items = record v { met = v.met ++ Missed v.events events items ∷ [] }
 
 abbrev pub looked_again : View → ℕ → ℕ → View
-looked_again v events items = record (missed v events items) { events = events; items = items }
+looked_again v events items = record v { met = v.met ++ Event events items ∷ []; events = events; items = items }
 
 abbrev pub began : View → ℕ → ℕ → View
 began v events items = record (looked_again v events items) { since = events; bare = replicate 64 false }

@@ -9,15 +9,21 @@ pub enum Hand {
     Kept(LinkedList<LinkedList<u64>>),
 }
 
-/// What a step of a try has read, by which the try may have no answer.
+/// What a step of a try has read. Each list take, each load and each exchange that was lost leaves one,
+/// so that a try that has no answer tells the whole way by which it came to that.
 #[derive(Clone, Copy, Debug, PartialEq, Eq)]
 pub enum Obstacle {
     /// A list, and the caller that holds it.
     Held(u64, u64),
     /// A list that was taken and had no item.
     Bare(u64),
-    /// How many events and how many items the event word showed.
+    /// A list that was taken and had items.
+    Stocked(u64),
+    /// How many events and how many items the event word showed to a load.
     Event(u64, u64),
+    /// An exchange that was lost: how many events it was to find, with no items, and how many events
+    /// and items the event word showed.
+    Missed(u64, u64, u64),
 }
 
 /// A seat that took in another one: what the two had seen, and which numbers they held.

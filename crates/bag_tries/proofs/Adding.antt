@@ -1,21 +1,26 @@
 -- A try of an add, from the list that was got.
-use Rattle.std.proofs.Common.{◌≡◌, ℕ, List, [], ◌∷◌, set, sym, refl, ap, ◌∙◌, subst}
+use Rattle.std.proofs.Common.{◌≡◌, ℕ, inl, inr, List, [], ◌∷◌, set, sym, refl, ap, ◌∙◌, subst}
 use Rattle.atomic_table.specs.Table.{rest}
 use Rattle.ho_base.specs.Marks.{Mark}
 use Rattle.ho_model.specs.declared.marks.EntryMark.{EntryMark}
 use Rattle.bag_rule.specs.declared.view.View.{View}
 use Rattle.bag_rule.specs.declared.view.Obstacle.{Obstacle}
 use Rattle.bag_rule.specs.declared.view.Hand.TheVariants.{Away, Kept}
-use Rattle.bag_rule.specs.Views.{none_kept, took_list, left_list, changed, entered, found_bare}
+use Rattle.bag_rule.specs.Views.{none_kept, took_list, left_list, changed, entered, found}
 use Rattle.bag_rule.specs.Plays.{Sits, Makes, GotList, MissedList}
 use Rattle.bag_rule.proofs.Lists.{no_hand}
 use Rattle.bag_tries.specs.declared.adds.AddTry.{AddTry}
 use Rattle.bag_tries.specs.declared.adds.AddTry.TheVariants.{Done, Full, Held, NoMemory}
 use Rattle.bag_tries.specs.Seats.{IsIdle, MadeEntry, MadeNone}
 use Rattle.bag_rule.specs.declared.view.Obstacle.TheVariants as obstacle
-use Rattle.bag_tries.specs.Causes.{OwnIsHeld}
+use Rattle.bag_tries.specs.Causes.{OwnIsHeld, OwnIsFree}
 use Rattle.bag_tries.specs.Adds.{KeptAdds, TryAdds, done_entry, full_entry}
 use Rattle.bag_tries.proofs.Hands.{back_once, back_twice}
+
+-- a list that was got was free
+free : (c : ℕ) (items : List Mark) → OwnIsFree c (found c items ∷ [])
+free c [] = inl refl
+free c (item ∷ items) = inr refl
 
 module _ (pr : Mark → ℕ) (m : Sits) (idle : IsIdle m) (c : ℕ) (t : Sits) (got : GotList pr m.0 m.1 c t) where
   abbrev v : View
@@ -32,7 +37,7 @@ module _ (pr : Mark → ℕ) (m : Sits) (idle : IsIdle m) (c : ℕ) (t : Sits) (
     makes = subst (λ (z : Sits). Makes pr z.0 others e place) got.1 makes;
     seen = refl;
     made = refl;
-    read = found_bare c got.0;
+    read = found c got.0 ∷ [];
     met = refl;
   }
 
@@ -44,13 +49,13 @@ module _ (pr : Mark → ℕ) (m : Sits) (idle : IsIdle m) (c : ℕ) (t : Sits) (
     makes = subst (λ (z : Sits). Makes pr z.0 others e place) got.1 makes;
     seen = refl;
     made = refl;
-    read = found_bare c got.0;
+    read = found c got.0 ∷ [];
     met = refl;
   }
 
   -- no entry
-  pub left_ends : (w : Sits) → w ≡ (left_list t.0 c, rest t.1) → MadeNone pr v (found_bare c got.0) w
-  left_ends w is = subst (λ (z : Sits). MadeNone pr v (found_bare c got.0) z) (sym (is ∙ ap (λ (z : Sits). (left_list z.0 c, rest z.1)) got.1)) record {
+  pub left_ends : (w : Sits) → w ≡ (left_list t.0 c, rest t.1) → MadeNone pr v (found c got.0 ∷ []) w
+  left_ends w is = subst (λ (z : Sits). MadeNone pr v (found c got.0 ∷ []) z) (sym (is ∙ ap (λ (z : Sits). (left_list z.0 c, rest z.1)) got.1)) record {
     back = record { idle = (ap (λ hands. set (set hands c (Kept got.0)) c Away) idle.0 ∙ back_once none_kept c (Kept got.0) (no_hand 64 c), idle.1, idle.2); callers = refl; caller = refl; held = refl };
     seen = refl;
     made = refl;
@@ -62,7 +67,7 @@ module _ (pr : Mark → ℕ) (m : Sits) (idle : IsIdle m) (c : ℕ) (t : Sits) (
   adds_end mark item w (Done place) k = changed_ends (done_entry pr mark c item) _ place k.0 w k.1 k.2
   adds_end mark item w (Full place back) k = (k.0, entered_ends (full_entry pr mark c item) place k.1 w k.2 k.3)
   adds_end mark item w (Held back) k = absurd k
-  adds_end mark item w (NoMemory back) k = (k.0, found_bare c got.0, left_ends w k.1)
+  adds_end mark item w (NoMemory back) k = (k.0, found c got.0 ∷ [], left_ends w k.1, free c got.0)
 
 -- another held the list
 pub held_ends : (pr : Mark → ℕ) (m : Sits) (idle : IsIdle m) (c word : ℕ) (w : Sits) → MissedList pr m.0 m.1 c word w → (read : List Obstacle) × MadeNone pr m.0 read w × OwnIsHeld m.0.callers c m.0.held read

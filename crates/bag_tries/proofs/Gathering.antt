@@ -11,7 +11,7 @@ use Rattle.bag_rule.specs.declared.view.View.{View}
 use Rattle.bag_rule.specs.declared.view.Obstacle.{Obstacle}
 use Rattle.bag_rule.specs.declared.view.Hand.{Hand}
 use Rattle.bag_rule.specs.declared.view.Hand.TheVariants.{Away, Kept}
-use Rattle.bag_rule.specs.Views.{hand_at, left_list, found_bare, entered, Agrees}
+use Rattle.bag_rule.specs.Views.{hand_at, left_list, found, entered, Agrees}
 use Rattle.bag_rule.specs.Plays.{Sits, Makes}
 use Rattle.bag_rule.specs.Seats.{front_of, InHand}
 use Rattle.bag_rule.proofs.Lists.{no_hand, hand_here, hand_else, not_away, is_kept}
@@ -39,14 +39,14 @@ gathers_more pr v m w n g got = subst (λ (z : Sits). Gathers pr v z (n + 1)) (s
   keeps = (subst (λ (k : ℕ). AreFirst k ((n, got.1.0) ∷ m.1)) (let e : suc n ≡ n + 1 = omega arith in e) (refl, g.keeps.0), ap (λ (z : List Hand). set z n (Kept got.1.0)) g.keeps.1);
   joint = g.joint;
   lawful = λ _. lift_law pr v m.0 g.read g.has_read m got.1.3;
-  read = g.read ++ (got.0 ++ found_bare n got.1.0);
+  read = g.read ++ (got.0 ++ found n got.1.0 ∷ []);
   has_read = let h = g.has_read in record {
     callers = h.callers;
     caller = h.caller;
     held = h.held;
     seen = h.seen;
     made = h.made;
-    met = ap (λ (z : List Obstacle). (z ++ got.0) ++ found_bare n got.1.0) h.met ∙ (append_assoc (v.met ++ g.read) got.0 (found_bare n got.1.0) ∙ append_assoc v.met g.read (got.0 ++ found_bare n got.1.0));
+    met = ap (λ (z : List Obstacle). (z ++ got.0) ++ found n got.1.0 ∷ []) h.met ∙ (append_assoc (v.met ++ g.read) got.0 (found n got.1.0 ∷ []) ∙ append_assoc v.met g.read (got.0 ++ found n got.1.0 ∷ []));
   };
 }
 

@@ -11,7 +11,7 @@ use Rattle.bag_rule.specs.declared.view.Obstacle.{Obstacle}
 use Rattle.bag_rule.specs.Views.{left_list, changed, entered}
 use Rattle.bag_rule.specs.Plays.{Sits, Makes}
 use Rattle.bag_rule.specs.Seats.{front_of}
-use Rattle.bag_tries.specs.Causes.{OwnIsHeld}
+use Rattle.bag_tries.specs.Causes.{OwnIsHeld, OwnIsFree, AreHeld}
 use Rattle.bag_tries.specs.Seats.{MadeEntry, MadeNone}
 use Rattle.bag_tries.specs.declared.adds.AddTry.{AddTry}
 use Rattle.bag_tries.specs.declared.adds.AddTry.TheVariants.{Done, Full, Held, NoMemory}
@@ -38,9 +38,11 @@ module _ {T : Type 0} (priority : Mark → ℕ) (mark : T → Mark) (c : ℕ) wh
   TryAdds v item m (Done place) = MadeEntry priority v (done_entry item) place m
   TryAdds v item m (Full place back) = (back ≡ item) × MadeEntry priority v (full_entry item) place m
   TryAdds v item m (Held back) = (back ≡ item) × (read : List Obstacle) × MadeNone priority v read m × OwnIsHeld v.callers c v.held read
-  TryAdds v item m (NoMemory back) = (back ≡ item) × (read : List Obstacle) × MadeNone priority v read m
+  TryAdds v item m (NoMemory back) = (back ≡ item) × (read : List Obstacle) × MadeNone priority v read m × OwnIsFree c read
 
--- the own list was free
-abbrev pub IsAddEnd : {T : Type 0} → AddTry T → Type 0
-IsAddEnd (Held back) = ⊥
-IsAddEnd _ = Unit {0}
+  -- tries up to the first that got the own list
+  abbrev pub EndsAdds : View → T → Sits → AddTry T → Type 0
+  EndsAdds v item m (Done place) = MadeEntry priority v (done_entry item) place m
+  EndsAdds v item m (Full place back) = (back ≡ item) × MadeEntry priority v (full_entry item) place m
+  EndsAdds v item m (Held back) = ⊥
+  EndsAdds v item m (NoMemory back) = (back ≡ item) × (before : List Obstacle) × (read : List Obstacle) × MadeNone priority v (before ++ read) m × AreHeld v.callers c v.held before × OwnIsFree c read

@@ -13,7 +13,7 @@ use Rattle.bag_rule.specs.declared.view.Obstacle.TheVariants as obstacle
 use Rattle.bag_rule.specs.Views.{left_list, changed}
 use Rattle.bag_rule.specs.Plays.{Sits, Makes, SeesAll}
 use Rattle.bag_rule.specs.Seats.{front_of}
-use Rattle.bag_tries.specs.Causes.{IsOther, WasTried, TakeIsHeld, SkipsAList, MissesAnEvent}
+use Rattle.bag_tries.specs.Causes.{IsOther, WasTried, HasSkipped, TakeIsHeld, SkipsAList, MissesAnEvent}
 use Rattle.bag_tries.specs.Seats.{MadeEntry, MadeNone}
 use Rattle.bag_tries.specs.declared.searches.Search.{Search}
 use Rattle.bag_tries.specs.declared.searches.Search.TheVariants as search
@@ -40,9 +40,10 @@ pub record Went (c : ℕ) (v w : View) (n k : ℕ) (skipped : Bool) : Type 0 whe
   pub bare : List Bool
   pub is : w ≡ wandered v read bare
   pub wide : length bare ≡ 64
+  pub once : length read + 1 ≡ k
   pub tried : (j : ℕ) → 0 < j → j < k → WasTried v.callers c v.held read (other_list c j n)
-  pub all_bare : skipped ≡ false → (j : ℕ) → 0 < j → j < k → slice_index_or bare (other_list c j n) false ≡ true
-  pub one_held : skipped ≡ true → (list : ℕ) × (other : ℕ) × (list < v.callers) × IsOther v.callers c v.held read other × Contains read (obstacle.Held list other)
+  pub all_bare : skipped ≡ false → (j : ℕ) → 0 < j → j < k → (slice_index_or bare (other_list c j n) false ≡ true) × Contains read (obstacle.Bare (other_list c j n))
+  pub one_held : skipped ≡ true → HasSkipped v.callers c v.held read
 
 -- c is the caller
 module _ {T : Type 0} (priority : Mark → ℕ) (mark : T → Mark) (c : ℕ) where
@@ -74,7 +75,7 @@ module _ {T : Type 0} (priority : Mark → ℕ) (mark : T → Mark) (c : ℕ) wh
   abbrev pub Searches : Sits → ℕ → Sits → Search T → Type 0
   Searches m list w (search.Stolen item place) = Steals m list item place w
   Searches m list w search.Bare = w ≡ (wandered m.0 (obstacle.Bare list ∷ []) (slice_set m.0.bare list true), m.1)
-  Searches m list w search.Held = (other : ℕ) × IsOther m.0.callers c m.0.held [] other × (w ≡ (wandered m.0 (obstacle.Held list other ∷ []) m.0.bare, m.1))
+  Searches m list w search.Held = (other : ℕ) × IsOther m.0.callers c m.0.held other × (w ≡ (wandered m.0 (obstacle.Held list other ∷ []) m.0.bare, m.1))
 
   -- all other lists of n, or up to one that has an item
   abbrev pub Rounds : Sits → ℕ → Sits → Round T → Type 0
@@ -85,24 +86,29 @@ module _ {T : Type 0} (priority : Mark → ℕ) (mark : T → Mark) (c : ℕ) wh
   -- the event word showed no items
   abbrev pub FindsEmpty : View → Sits → TakeTry T → Type 0
   FindsEmpty v m (tries.Empty place) = MadeEntry priority v bare_entry place m
-  FindsEmpty v m tries.Lost = (events : ℕ) × (items : ℕ) × MadeNone priority v (obstacle.Event events items ∷ []) m × (v.events < events) × SeesAll v events
+  FindsEmpty v m tries.Lost = (later : ℕ) × (items : ℕ) × MadeNone priority v (obstacle.Missed v.events later items ∷ []) m × (v.events < later) × SeesAll v later
   FindsEmpty v m _ = ⊥
 
-  -- after a round: a load, and maybe an exchange
+  -- after a round: a load which showed items, although no list was skipped
+  abbrev pub SettlesBare : View → Bool → Sits → ℕ → ℕ → Type 0
+  SettlesBare v skipped m later items = (skipped ≡ false) × MadeNone priority v (obstacle.Event later items ∷ []) m × (v.since < later) × (0 < items)
+
+  -- or one which showed none, and an exchange
+  abbrev pub SettlesMissed : View → Sits → ℕ → ℕ → Type 0
+  SettlesMissed v m later items = (events : ℕ) × MadeNone priority v (obstacle.Event events 0 ∷ obstacle.Missed events later items ∷ []) m × (events < later) × SeesAll v events
+
   abbrev pub Settles : View → Bool → Sits → TakeTry T → Type 0
   Settles v skipped m (tries.Empty place) = MadeEntry priority v bare_entry place m
   Settles v skipped m tries.Held = (skipped ≡ true) × (events : ℕ) × (items : ℕ) × MadeNone priority v (obstacle.Event events items ∷ []) m × (0 < items)
-  Settles v skipped m tries.Lost = (later : ℕ) × (later_items : ℕ) × SeesAll v later
-      × ((MadeNone priority v (obstacle.Event later later_items ∷ []) m × (v.since < later))
-      ⊎ ((events : ℕ) × (items : ℕ) × MadeNone priority v (obstacle.Event events items ∷ obstacle.Event later later_items ∷ []) m × (events < later) × SeesAll v events))
+  Settles v skipped m tries.Lost = (later : ℕ) × (items : ℕ) × SeesAll v later × (SettlesBare v skipped m later items ⊎ SettlesMissed v m later items)
   Settles v skipped m (tries.Item from item place) = ⊥
 
-  -- while the own list is kept and has no item
+  -- while the own list is kept, which was found without an item
   abbrev pub GoesRound : View → Sits → TakeTry T → Type 0
   GoesRound v m (tries.Item from item place) = MadeEntry priority v (item_entry item from) place m
   GoesRound v m (tries.Empty place) = MadeEntry priority v bare_entry place m
-  GoesRound v m tries.Held = (read : List Obstacle) × MadeNone priority v read m × SkipsAList v.callers c v.held read
-  GoesRound v m tries.Lost = (read : List Obstacle) × MadeNone priority v read m × MissesAnEvent v.callers c v.held read
+  GoesRound v m tries.Held = (read : List Obstacle) × MadeNone priority v read m × SkipsAList v.callers c v.held (obstacle.Bare c ∷ read)
+  GoesRound v m tries.Lost = (read : List Obstacle) × MadeNone priority v read m × MissesAnEvent v.callers c v.held (obstacle.Bare c ∷ read)
 
   -- one try
   abbrev pub TryTakes : View → Sits → TakeTry T → Type 0
@@ -111,8 +117,8 @@ module _ {T : Type 0} (priority : Mark → ℕ) (mark : T → Mark) (c : ℕ) wh
   TryTakes v m tries.Held = (read : List Obstacle) × MadeNone priority v read m × TakeIsHeld v.callers c v.held read
   TryTakes v m tries.Lost = (read : List Obstacle) × MadeNone priority v read m × MissesAnEvent v.callers c v.held read
 
--- the call made its entry
-abbrev pub IsTakeEnd : {T : Type 0} → TakeTry T → Type 0
-IsTakeEnd tries.Held = ⊥
-IsTakeEnd tries.Lost = ⊥
-IsTakeEnd _ = Unit {0}
+  -- tries up to the first that made its entry
+  abbrev pub EndsTakes : View → Sits → TakeTry T → Type 0
+  EndsTakes v m (tries.Item from item place) = MadeEntry priority v (item_entry item from) place m
+  EndsTakes v m (tries.Empty place) = MadeEntry priority v bare_entry place m
+  EndsTakes v m _ = ⊥

@@ -2,8 +2,8 @@
 ghost use Rattle.std.specs.Prelude.{◌≡◌, ◌<◌};
 ghost use Rattle.bag_rule.specs.Seats.{IsFor, IsSame, MayEnter};
 ghost use Rattle.bag_tries.specs.Seats.{IsIdle};
-ghost use Rattle.bag_tries.specs.Adds.{TryAdds, IsAddEnd};
-ghost use Rattle.bag_tries.specs.Takes.{TryTakes, IsTakeEnd};
+ghost use Rattle.bag_tries.specs.Adds.{EndsAdds};
+ghost use Rattle.bag_tries.specs.Takes.{EndsTakes};
 
 use crate::adds::{AddTry, try_add};
 use crate::takes::{TakeTry, try_take};
@@ -25,8 +25,7 @@ pub fn add<T: Item, R: Wait>(
     requires caller { (seat.old.me.0.caller ≡ caller) × (caller < seat.old.me.0.callers) }
     requires idle { IsIdle seat.old.me }
     ensures same { IsSame seat.old seat.new }
-    ensures told { TryAdds T.priority_of T.mark caller seat.old.me.0 item seat.new.me result }
-    ensures ended { IsAddEnd result }
+    ensures told { EndsAdds T.priority_of T.mark caller seat.old.me.0 item seat.new.me result }
 {
     let mut given = item;
     let mut pause = Pause::new();
@@ -54,8 +53,7 @@ pub fn take<T: Item, R: Wait>(
     requires caller { (seat.old.me.0.caller ≡ caller) × (caller < seat.old.me.0.callers) }
     requires idle { IsIdle seat.old.me }
     ensures same { IsSame seat.old seat.new }
-    ensures told { TryTakes T.priority_of T.mark caller seat.old.me.0 seat.new.me result }
-    ensures ended { IsTakeEnd result }
+    ensures told { EndsTakes T.priority_of T.mark caller seat.old.me.0 seat.new.me result }
 {
     let mut pause = Pause::new();
     for _ in rt.forever() {

@@ -7,7 +7,7 @@ use Rattle.passes.specs.Seen.{IsLawful}
 use Rattle.passes.specs.Views.{IsWhole}
 use Rattle.passes.specs.Calls.{IsSamePass, AddsNoEntry}
 use Rattle.bag_rule.specs.declared.view.Obstacle.{Obstacle}
-use Rattle.bag_tries.specs.Causes.{OwnIsHeld, TakeIsHeld, MissesAnEvent}
+use Rattle.bag_tries.specs.Causes.{OwnIsHeld, OwnIsFree, TakeIsHeld, MissesAnEvent}
 use Rattle.concurrent_bag.specs.declared.answers.BagAgain.TheVariants as again
 use Rattle.concurrent_bag.specs.declared.answers.BagAddOnce.{BagAddOnce}
 use Rattle.concurrent_bag.specs.declared.answers.BagAddOnce.TheVariants as add
@@ -42,7 +42,7 @@ module _ {T : Type 0} (priority : Mark → ℕ) (mark : T → Mark) (p q : BagVi
   AddsOnce x (add.Again again.Held back) = (back ≡ x) × (¬ IsWhole p) × (read : List Obstacle) × MakesNone priority p q read × OwnIsHeld p.callers p.caller p.held read
   AddsOnce x (add.Again again.Lost back) = ⊥
   AddsOnce x (add.Spent back) = (back ≡ x) × IsSpent priority p q
-  AddsOnce x (add.NoMemory back) = (back ≡ x) × (read : List Obstacle) × MakesNone priority p q read
+  AddsOnce x (add.NoMemory back) = (back ≡ x) × (read : List Obstacle) × MakesNone priority p q read × OwnIsFree p.caller read
 
   -- a take
   abbrev pub TakesOnce : BagTakeOnce T → Type 0

@@ -9,11 +9,13 @@
 //! Adds, counts and takes of a caller's own item take constant time; a take from another's list
 //! tries the lists in a ring; a snapshot holds all lists and is linear. Adds and snapshots take memory.
 //!
-//! An answer counts one call, and no other end of a call counts any; a caller makes at most 2^37. Each
-//! answer of a try that is none has its cause in its contract: `Held` and `Lost` never come with a pass
-//! that holds all numbers. Which list a take steals from, and that a try ever succeeds, is not promised.
-//! Want of memory is the one answer that is left free, of a maker, of an add and of a snapshot. One that
-//! always gave it would be proved, so tests show that each succeeds.
+//! An answer counts one call, and no other end of a call counts any; a caller makes at most 2^37. A try
+//! that has no answer tells in its contract all that it has read, step by step (`specs/Tries.antt`, and
+//! `specs/Causes.antt` of `bag_tries`): so none gives up early, skips a list or leaves out the exchange.
+//! `Held` and `Lost` never come with a pass that holds all numbers. Which list a take steals from, and
+//! that a try ever succeeds, is not promised. Want of memory is the one answer that is left free, of a
+//! maker, of an add that has taken its list and of a snapshot. One that always gave it would be proved, so
+//! tests show that each succeeds.
 //!
 //! Stands on `ho_model`, which says what a bag is, on `bag_rule` and `bag_tries` for the shared words
 //! and the calls, on `passes` for the words of its contracts, and, for the form behind a turn, on

@@ -8,6 +8,10 @@
 #[cfg(test)]
 mod any_calls;
 #[cfg(test)]
+mod bag_notes;
+#[cfg(test)]
+mod bag_once;
+#[cfg(test)]
 mod bags;
 #[cfg(test)]
 mod channel_calls;

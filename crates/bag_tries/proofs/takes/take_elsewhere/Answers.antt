@@ -9,12 +9,12 @@ use Rattle.bag_tries.specs.Seats.{HasOwnBare}
 use Rattle.bag_tries.specs.Takes.{item_entry}
 use Rattle.bag_tries.proofs.Hands.{own_in_hand, own_kept}
 use Rattle.bag_tries.proofs.Lifts.{lift_entry}
-use Rattle.bag_tries.proofs.Settling.{began_later, goes_empty, left_robbed, bare_round, settled}
+use Rattle.bag_tries.proofs.Settling.{began_later, goes_empty, left_robbed, bare_round, settled, some_items, no_items}
 use Rattle.bag_tries.proofs.takes.take_elsewhere.Goals as goal
 
 pub returns-then-word-eq0-clause-told : goal.returns-then-word-eq0-clause-told
 returns-then-word-eq0-clause-told g c = let e = c.begin-word.ensures.read in
-    goes_empty g.T.Item.priority_of g.T.Item.mark c.args.caller c.args.seat.now.me.0 c.begin-word.new.seat.me.0 e.0 e.1 c.find_empty.new.seat.me (ap (λ (z : Sits). z.0) e.3) e.4 c.find_empty.result c.find_empty.ensures.told
+    goes_empty g.T.Item.priority_of g.T.Item.mark c.args.caller c.args.seat.now.me.0 c.begin-word.new.seat.me.0 e.0 e.1 c.find_empty.new.seat.me (ap (λ (z : Sits). z.0) e.3) e.4 (no_items _ e.0 e.1 e.2 c.if-word-eq0.true) c.find_empty.result c.find_empty.ensures.told
 
 pub leave_list-requires-clause-hand : goal.leave_list-requires-clause-hand
 leave_list-requires-clause-hand g c κs within = let e = c.begin-word.ensures.read in let s = c.in-Stolen.ensures.told in
@@ -41,10 +41,10 @@ pub returns-in-Bare-clause-told : goal.returns-in-Bare-clause-told
 returns-in-Bare-clause-told g c = let e = c.begin-word.ensures.read in let r = c.in-Bare.ensures.told in
     let v = c.args.seat.now.me.0 in let b = c.begin-word.new.seat.me.0 in
     let low : c.args.caller < b.callers = subst (λ (z : Sits). c.args.caller < z.0.callers) (sym e.3) c.requires.caller.1 in
-    settled g.T.Item.priority_of g.T.Item.mark c.args.caller v b c.look_round.new.seat.me.0 e.0 e.1 b.callers (ap (λ (z : Sits). z.0) e.3) e.4 (sym (ap (λ (z : Sits). z.0.callers) e.3)) low false r.0 c.settle.new.seat.me c.settle.result c.settle.ensures.told
+    settled g.T.Item.priority_of g.T.Item.mark c.args.caller v b c.look_round.new.seat.me.0 e.0 e.1 b.callers (ap (λ (z : Sits). z.0) e.3) e.4 (some_items _ e.0 e.1 e.2 c.if-word-eq0.false) refl low false r.0 c.settle.new.seat.me c.settle.result c.settle.ensures.told
 
 pub returns-in-Skipped-clause-told : goal.returns-in-Skipped-clause-told
 returns-in-Skipped-clause-told g c = let e = c.begin-word.ensures.read in let r = c.in-Skipped.ensures.told in
     let v = c.args.seat.now.me.0 in let b = c.begin-word.new.seat.me.0 in
     let low : c.args.caller < b.callers = subst (λ (z : Sits). c.args.caller < z.0.callers) (sym e.3) c.requires.caller.1 in
-    settled g.T.Item.priority_of g.T.Item.mark c.args.caller v b c.look_round.new.seat.me.0 e.0 e.1 b.callers (ap (λ (z : Sits). z.0) e.3) e.4 (sym (ap (λ (z : Sits). z.0.callers) e.3)) low true r.0 c.settle-in-Skipped.new.seat.me c.settle-in-Skipped.result c.settle-in-Skipped.ensures.told
+    settled g.T.Item.priority_of g.T.Item.mark c.args.caller v b c.look_round.new.seat.me.0 e.0 e.1 b.callers (ap (λ (z : Sits). z.0) e.3) e.4 (some_items _ e.0 e.1 e.2 c.if-word-eq0.false) refl low true r.0 c.settle-in-Skipped.new.seat.me c.settle-in-Skipped.result c.settle-in-Skipped.ensures.told
