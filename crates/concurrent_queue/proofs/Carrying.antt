@@ -91,7 +91,7 @@ module _ (queue : QueueShape) (p q : segments.QueueView) (of : IsOf (id_of queue
   again_as : (again : QueueAgain) → (read : List Obstacle) × tries.MakesNone p q read × tries.DequeueCause p q read again → (read : List Obstacle) × MakesNone (queue_view p) (queue_view q) read × DequeueCause (queue_view p) (queue_view q) read again
   again_as Lost h = (h.0, none_as h.0 h.1, h.2)
   again_as Turn h = (h.0, none_as h.0 h.1, h.2)
-  again_as InFlight h = let c = h.2 in (h.0, none_as h.0 h.1, (c.0, c.1, c.2, record { putter = c.3.putter; enqueued = c.3.enqueued; not_taken = c.3.not_taken; not_held = c.3.not_held; not_whole = c.3.not_whole }))
+  again_as InFlight h = let c = h.2 in (h.0, none_as h.0 h.1, (c.0, c.1, c.2, record { putter = c.3.putter; enqueued = c.3.enqueued; first = c.3.first; not_held = c.3.not_held; not_whole = c.3.not_whole }))
   again_as NoPlace h = absurd h.2
 
   pub dequeues_as : (r : QueueOnce DequeueReply) → tries.Dequeues p q r → DequeuesOnce (queue_view p) (queue_view q) queue.form.first_len r

@@ -33,11 +33,11 @@ HasNoCallLeft p = 2 ^ 48 ≤ slice_index p.pass.made p.pass.caller
 abbrev pub IsTurned : List Obstacle → QueueView → Type 0
 IsTurned read p = (caller : ℕ) × (caller < p.pass.callers) × (¬ HasNumber p.pass.held caller) × Contains read (Turned caller)
 
--- the position was enqueued by another caller, and was not taken
+-- the position is the first one that was not taken, and was enqueued by another caller
 pub record IsInFlight (p : QueueView) (position : ℕ) (history : List EntryMark) : Type 0 where
   pub putter : ℕ
   pub enqueued : slice_get (putters_of history) position ≡ Some putter
-  pub not_taken : (tally_of history).taken ≤ position
+  pub first : (tally_of history).taken ≡ position
   pub not_held : ¬ HasNumber p.pass.held putter
   pub not_whole : ¬ IsWhole p.pass
 

@@ -37,7 +37,7 @@ pub in_flight_of : (v w : View) (head : ℕ) (history : List EntryMark) → w.ca
 in_flight_of v w head history callers held f = record {
   putter = f.putter;
   enqueued = f.enqueued;
-  not_taken = f.not_taken;
+  first = f.first;
   not_held = subst (λ (z : List Bool). ¬ HasNumber z f.putter) (sym held) f.not_held;
   not_whole = subst (λ (z : ℕ × List Bool). ¬ HasAll z.0 z.1) (λ i. (sym callers i, sym held i)) f.not_whole;
 }

@@ -6,6 +6,7 @@ use Rattle.std.proofs.lemmas.List.Elements.{Contains-append_left, Contains-appen
 use Rattle.seg_rule.specs.declared.word.QueueWord.TheVariants.{Observers}
 use Rattle.seg_rule.specs.declared.view.View.{View}
 use Rattle.seg_rule.specs.declared.view.Candidate.{Candidate}
+use Rattle.seg_rule.specs.declared.view.Scan.{Scan}
 use Rattle.seg_rule.specs.declared.view.Obstacle.{Obstacle}
 use Rattle.seg_rule.specs.declared.view.Obstacle.TheVariants.{IsCurrent, Observed}
 use Rattle.seg_rule.specs.declared.view.Hand.TheVariants.{Nothing}
@@ -42,16 +43,20 @@ module _ (p end start : ℕ) where
   abbrev closed : View → ℕ → ℕ → View
   closed v q t = record v { hand = Nothing; stage = Closed q t true; notes = record v.notes { scan = record v.notes.scan { candidate = Some spent } } }
 
+  -- what was read of the chain, with the observers
+  abbrev counted : View → ℕ → ℕ → ℕ → Scan
+  counted v q t x = record (closed v q t).notes.scan { observers = Some (p, x) }
+
   looked : (v w : View) (q t current head x : ℕ) → w ≡ told (Observers p) x (closed v q t) → IsPastHead (closed v q t) current head → (free : Bool) → eqb x 0 ≡ free → TriesPlace (closed v q t) current head p free w
   looked v w q t current head x is past true zero = record {
     read = [];
-    scan = (closed v q t).notes.scan;
-    left = is ∙ (λ i. record (closed v q t) { met = v.met ++ met_if (true && (eq-eqb p p refl i && not (zero i))) (Observed p); stage = cond (zero i && (eq-eqb p p refl i && true)) (Found q t p) (Closed q t true) });
+    scan = counted v q t x;
+    left = is ∙ (λ i. record (closed v q t) { met = v.met ++ met_if (true && (eq-eqb p p refl i && not (zero i))) (Observed p); stage = cond (zero i && (eq-eqb p p refl i && true)) (Found q t p) (Closed q t true); notes = record v.notes { scan = counted v q t x } });
   }
   looked v w q t current head x is past false zero = record {
     read = Observed p ∷ [];
-    scan = (closed v q t).notes.scan;
-    left = is ∙ (λ i. record (closed v q t) { met = v.met ++ met_if (true && (eq-eqb p p refl i && not (zero i))) (Observed p); stage = cond (zero i && (eq-eqb p p refl i && true)) (Found q t p) (Closed q t true) });
+    scan = counted v q t x;
+    left = is ∙ (λ i. record (closed v q t) { met = v.met ++ met_if (true && (eq-eqb p p refl i && not (zero i))) (Observed p); stage = cond (zero i && (eq-eqb p p refl i && true)) (Found q t p) (Closed q t true); notes = record v.notes { scan = counted v q t x } });
     current_is = past.current_is;
     past = past.past;
     in_use = λ other. inr (inr (inr (Contains-push [] (Observed p))));

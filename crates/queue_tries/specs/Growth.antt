@@ -9,6 +9,10 @@ use Rattle.seg_rule.specs.Steps.{fit_tail, no_scan, on_stage}
 abbrev pub ended_tail : ℕ → ℕ → ℕ → ℕ → OpenTail
 ended_tail place t length number = record { place = place; position = t; length = Some length; number = Some number; fits = false; full = true }
 
+-- so many snapshots were read to observe the place
+abbrev pub observed_by : View → ℕ → ℕ → View
+observed_by v place count = record v { notes = record v.notes { scan = record v.notes.scan { observers = Some (place, count) } } }
+
 -- so many words of the place are written
 abbrev pub prepared : View → ℕ → ℕ → ℕ → ℕ → ℕ → View
 prepared v current place t length words = on_stage v (Preparing current place t length words)

@@ -3,15 +3,15 @@ ghost use Rattle.std.specs.Prelude.{◌≡◌, ◌+◌, ◌*◌, ◌<◌, ◌≤
 ghost use Rattle.seg_layout.specs.Lengths.{IsSegmentLength, next_len_of};
 ghost use Rattle.seg_rule.specs.declared.view.Hand.TheVariants.{Nothing};
 ghost use Rattle.seg_rule.specs.declared.view.Stage.TheVariants.{Found, Preparing};
-ghost use Rattle.seg_rule.specs.Steps.{blank_scan};
+ghost use Rattle.seg_rule.specs.Steps.{blank_scan, is_observed};
 ghost use Rattle.seg_rule.specs.Passes.{IsOf};
-ghost use Rattle.queue_tries.specs.Growth.{ended_tail, prepared, moved_on};
+ghost use Rattle.queue_tries.specs.Growth.{ended_tail, observed_by, prepared, moved_on};
 
 use seg_layout::{next_len, opening_number};
 use seg_rule::{Entering, QueuePass, QueueTable, QueueWord};
 
 /// Whether a snapshot holds the current place.
-fn is_observed(
+fn see_observers(
     table: &QueueTable,
     pass: &mut QueuePass,
     current: u32,
@@ -23,7 +23,8 @@ fn is_observed(
     requires hand { pass.old.view.hand ≡ Nothing }
     requires stage { pass.old.view.stage ≡ Found current tail place }
     ensures same { pass.new.table ≡ pass.old.table }
-    ensures kept { pass.new.view ≡ pass.old.view }
+    ensures seen { (count : ℕ) × (pass.new.view ≡ observed_by pass.old.view current count)
+        × (result ≡ is_observed count) }
 {
     // for the proof: its clauses name them
     let _ = (tail, place);
@@ -37,7 +38,6 @@ fn write_length(
     current: u32,
     tail: u64,
     length: u32,
-    observed: bool,
     place: u32,
     next: u32,
 )
@@ -46,12 +46,13 @@ fn write_length(
     requires stage { pass.old.view.stage ≡ Found current tail place }
     requires tail { (number : ℕ) × (pass.old.view.notes.tail ≡ Some (ended_tail current tail length number)) }
     requires length { IsSegmentLength table.now.form.first_len next }
-    requires next { next ≡ next_len_of table.now.form.first_len length observed }
+    requires next { (count : ℕ) × (pass.old.view.notes.scan.observers ≡ Some (current, count))
+        × (next ≡ next_len_of table.now.form.first_len length (is_observed count)) }
     ensures same { pass.new.table ≡ pass.old.table }
     ensures begun { pass.new.view ≡ prepared pass.old.view current place tail next 1 }
 {
     // for the proof: its clauses name them
-    let _ = (current, tail, length, observed);
+    let _ = (current, tail, length);
     let _form = table.form();
     table.place_words(pass, QueueWord::Length(place), u64::from(next));
 }
@@ -73,12 +74,14 @@ fn begin_place(
     requires tail { (number : ℕ) × (pass.old.view.notes.tail ≡ Some (ended_tail current tail length number)) }
     ensures same { pass.new.table ≡ pass.old.table }
     ensures inside { (1 ≤ result) × (result ≤ table.now.form.slots) }
+    ensures next { (count : ℕ)
+        × (result ≡ next_len_of table.now.form.first_len length (is_observed count)) }
     ensures begun { pass.new.view ≡ prepared pass.old.view current place tail result 1 }
 {
-    let observed = is_observed(table, pass, current, tail, place);
+    let observed = see_observers(table, pass, current, tail, place);
     let first_len = table.form().first_len;
     let next = next_len(length, observed, first_len);
-    write_length(table, pass, current, tail, length, observed, place, next);
+    write_length(table, pass, current, tail, length, place, next);
     next
 }
 
@@ -194,7 +197,8 @@ pub(crate) fn open_place(
     requires length { IsSegmentLength table.now.form.first_len length }
     requires tail { pass.old.view.notes.tail ≡ Some (ended_tail current tail length number) }
     ensures same { pass.new.table ≡ pass.old.table }
-    ensures opened { (next : ℕ) × (pass.new.view ≡ moved_on pass.old.view place tail next) }
+    ensures opened { (count : ℕ) × (pass.new.view ≡ moved_on pass.old.view place tail
+        (next_len_of table.now.form.first_len length (is_observed count))) }
 {
     let next = begin_place(table, pass, current, tail, length, place);
     write_words(table, pass, current, tail, number, place, next);

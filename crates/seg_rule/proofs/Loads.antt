@@ -418,10 +418,11 @@ module _ (f : Form) (m : Memory) (views : List View) (id : ℕ) (v : View) (k : 
       let a = and_parts (is_front_slot (has_turn v.stage) p i (Some y) v.notes.scan) (eqb x (2 * y)) e in
       let turn = turn_mine f m views id v k at v.stage own.stage (and_parts (has_turn v.stage) (is_read v.notes.scan.inside y && (is_read v.notes.scan.first p && is_slot_of p i y v.notes.scan.length)) a.0).0 in
       let s = front_slot f m views id v k at turn v.notes.head own.notes.head v.notes.scan (own.notes.scan turn) p i y (has_turn v.stage) a.0 in
+      let head : HeadNote ghosts (IsWhole v) (Some y) = subst (HeadNote ghosts (IsWhole v)) noted own.notes.head in
       let c = in_flight f m views id v k at p i ghosts.low y idle (s.0, s.1, s.2) (now ∙ eqb-true x (2 * y) a.1) s.4 in record {
         putter = c.0;
         enqueued = ap (λ z. slice_get z y) k.words.counts.stands.2 ∙ got ghosts.putters y c.0 c.1;
-        not_taken = subst (λ z. z ≤ y) (sym (taken_counted f m views id v k at)) c.2;
+        first = taken_counted f m views id v k at ∙ (let least = c.2 in let most = head.0 in let z : ghosts.taken ≡ y = omega arith in z);
         not_held = c.3.not_held;
         not_whole = c.3.not_whole;
       }

@@ -88,7 +88,7 @@ notes_are v h st First x t k = record { head = k.head; tail = k.tail; front = k.
 notes_are v h st (Tail p) x t k = record { head = k.head; tail = tail_is h p x t.small v.notes.tail k.tail; front = k.front }
 notes_are v h st (Start p) x t k = record { head = k.head; tail = k.tail; front = k.front }
 notes_are v h st (Length p) x t k = record { head = k.head; tail = length_is h p x v.notes.tail k.tail; front = k.front }
-notes_are v h st (Observers p) x t k = k
+notes_are v h st (Observers p) x t k = record { head = k.head; tail = k.tail; front = k.front }
 notes_are v h st (Done p) x t k = record { head = k.head; tail = k.tail; front = k.front }
 notes_are v h st (Next p) x t k = record { head = k.head; tail = k.tail; front = k.front }
 notes_are v h st (Segment p) x t k = record { head = k.head; tail = segment_is h p x v.notes.tail k.tail; front = k.front }
@@ -199,7 +199,7 @@ module _ (v : View) (h : Here) (k : IsHere v h) where
     notes = notes_are v h v.stage (Length p) x t k.notes;
   }
   told_here (Observers p) x t may near same = let f = found_is h p x v.notes.scan.candidate v.stage k.stage k.turn in
-      noticed_here (told (Observers p) x v).met v.notes (hand_at (leave_by x) p v.hand) (found_at p x v.notes.scan.candidate v.stage) v.window f.1 (observers_are h p x v.hand k.hand) f.0 k.notes
+      noticed_here (told (Observers p) x v).met (noted v.stage (Observers p) x v.notes) (hand_at (leave_by x) p v.hand) (found_at p x v.notes.scan.candidate v.stage) v.window f.1 (observers_are h p x v.hand k.hand) f.0 (notes_are v h v.stage (Observers p) x t k.notes)
   told_here (Done p) x t may near same = noticed_here (told (Done p) x v).met (noted v.stage (Done p) x v.notes) v.hand v.stage v.window k.turn k.hand k.stage (notes_are v h v.stage (Done p) x t k.notes)
   told_here (Next p) x t may near same = noticed_here (told (Next p) x v).met (noted v.stage (Next p) x v.notes) v.hand v.stage (told (Next p) x v).window k.turn k.hand k.stage (notes_are v h v.stage (Next p) x t k.notes)
   told_here (Segment p) x t may near same = noticed_here (told (Segment p) x v).met (noted v.stage (Segment p) x v.notes) v.hand v.stage v.window k.turn k.hand k.stage (notes_are v h v.stage (Segment p) x t k.notes)

@@ -398,7 +398,15 @@ module _ (f : Form) (m : Memory) (views : List View) (id : ℕ) (v : View) (k : 
     scan = λ t. let c = s.scan t in
         record { first = c.first; current = c.current; length = length_at t o.head s.head o.scan c p x now; next = c.next; past = c.past; inside = c.inside; moved = c.moved; candidate = c.candidate };
   }
-  noted_ok (Observers p) x near now o s = s
+  noted_ok (Observers p) x near now o s = record {
+    head = s.head;
+    gone = s.gone;
+    tail = s.tail;
+    newest = s.newest;
+    front = s.front;
+    scan = λ t. let c = s.scan t in
+        record { first = c.first; current = c.current; length = c.length; next = c.next; past = c.past; inside = c.inside; moved = c.moved; candidate = c.candidate };
+  }
   noted_ok (Done p) x near now o s = record {
     head = s.head;
     gone = s.gone;

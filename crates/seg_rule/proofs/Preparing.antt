@@ -24,7 +24,7 @@ use Rattle.seg_rule.proofs.Places.{at_here, at_else}
 use Rattle.std.specs.Prelude.{Some}
 use Rattle.seg_layout.specs.Lengths.{IsSegmentLength, next_len_of}
 use Rattle.seg_layout.proofs.Powers.{next_is_length}
-use Rattle.seg_rule.specs.Steps.{on_stage, MayBegin, MayNumber, MayShow}
+use Rattle.seg_rule.specs.Steps.{on_stage, is_observed, MayBegin, MayNumber, MayShow}
 use Rattle.seg_rule.proofs.Bounds.{few_put}
 use Rattle.seg_rule.proofs.Stays.{notes_alone, hand_stays, window_fact_stays}
 use Rattle.seg_rule.proofs.Frames.{kept_after, strays_put}
@@ -239,7 +239,7 @@ module _ (f : Form) (m : Memory) (views : List View) (id : ℕ) (v : View) (k : 
   found_begun_kept p n x same near two fits r =
       let st : StageOk g id active v.caller (Found r.0 r.1 p) = subst (StageOk g id active v.caller) r.5 ok.stage in
       subst (λ (z : ℕ). Kept f (update m (Length p) x) (set views id (on_stage v (Preparing r.0 p r.1 z 1)))) (sym same)
-      (begun_kept r.0 r.1 p x r.5 near two fits (next_right r.0 r.1 x r.2 r.4 r.3 st.5 st.4 r.6 r.7 r.8 r.9 r.10))
+      (begun_kept r.0 r.1 p x r.5 near two fits (next_right r.0 r.1 x r.2 (is_observed r.4) r.3 st.5 st.4 r.6 r.7 r.8 r.9 r.11))
 
   pub start_kept : (d p t n : ℕ) → v.stage ≡ Preparing d p t n 1 → Kept f (update m (Start p) t) (set views id (on_stage v (Preparing d p t n 2)))
   start_kept d p t n is = let o = k.words.preps in word_kept d p t n 1 is (update m (Start p) t) record {

@@ -149,7 +149,7 @@ noted st First x o = record o { scan = first_scan x o.head o.scan }
 noted st (Tail p) x o = record o { tail = tail_note p x o.tail; scan = tail_scan p x o.head o.scan }
 noted st (Start p) x o = record o { scan = record o.scan { candidate = start_note p x o.scan.candidate } }
 noted st (Length p) x o = record o { tail = length_note p x o.tail; scan = record o.scan { length = Some (p, x) } }
-noted st (Observers p) x o = o
+noted st (Observers p) x o = record o { scan = record o.scan { observers = Some (p, x) } }
 noted st (Done p) x o = record o { scan = record o.scan { candidate = done_note (has_closed st) p x o.scan.past o.scan.candidate } }
 noted st (Next p) x o = record o { scan = record o.scan { next = Some (p, x) } }
 noted st (Segment p) x o = record o { tail = segment_note p x o.tail }
@@ -306,7 +306,7 @@ end_noted None = None
 end_noted (Some c) = Some c.end
 
 abbrev pub moved_scan : ℕ → Option ℕ → Scan → Scan
-moved_scan p h o = record { first = Some p; current = o.current; length = None; next = None; past = head_if (is_read o.current p) h None; inside = None; moved = end_noted o.candidate; candidate = None }
+moved_scan p h o = record { first = Some p; current = o.current; length = None; observers = None; next = None; past = head_if (is_read o.current p) h None; inside = None; moved = end_noted o.candidate; candidate = None }
 
 abbrev pub first_moved : View → ℕ → View
 first_moved v p = record v { notes = record v.notes { scan = moved_scan p v.notes.head v.notes.scan } }

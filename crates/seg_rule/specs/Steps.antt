@@ -1,5 +1,5 @@
 -- What each kind of step asks of the view of the pass that makes it, and what it leaves.
-use Rattle.std.specs.Prelude.{◌≤◌, suc, ◌/◌, eqb, Option, ◌≡◌, ◌≢◌, replicate, ◌⊎◌, ℕ, ◌+◌, ◌*◌, ◌%◌, ◌^◌, ◌<◌, Bool, true, false, cond, List, [], ◌∷◌, ◌++◌, slice_index, Some, None}
+use Rattle.std.specs.Prelude.{◌≤◌, suc, ◌/◌, eqb, not, Option, ◌≡◌, ◌≢◌, replicate, ◌⊎◌, ℕ, ◌+◌, ◌*◌, ◌%◌, ◌^◌, ◌<◌, Bool, true, false, cond, List, [], ◌∷◌, ◌++◌, slice_index, Some, None}
 use Rattle.ho_model.specs.declared.marks.EntryMark.{EntryMark}
 use Rattle.ho_model.specs.declared.marks.CallMark.TheVariants.{Enq, Deq}
 use Rattle.ho_model.specs.declared.marks.ReplyMark.TheVariants.{Done, Item}
@@ -28,7 +28,7 @@ use Rattle.seg_rule.specs.declared.view.Stage.{Stage}
 use Rattle.seg_rule.specs.declared.view.Stage.TheVariants.{Away, Plain, Closed, Found, Preparing, Opened, Linked, Observing}
 
 abbrev pub blank_scan : Scan
-blank_scan = record { first = None; current = None; length = None; next = None; past = None; inside = None; moved = None; candidate = None }
+blank_scan = record { first = None; current = None; length = None; observers = None; next = None; past = None; inside = None; moved = None; candidate = None }
 
 abbrev pub blank : Notes
 blank = record { head = None; gone = None; tail = None; front = None; scan = blank_scan }
@@ -152,9 +152,13 @@ MayClose v q t = (v.stage ≡ Plain) × ((o : OpenTail) × (v.notes.tail ≡ Som
 abbrev pub closed_at : View → ℕ → ℕ → View
 closed_at v q t = on_stage v (Closed q t (is_full v.notes.tail))
 
--- The store that begins the preparation of the place p: it was found free, and the length follows from that which was read of the current place.
+-- a place that so many snapshots observe
+abbrev pub is_observed : ℕ → Bool
+is_observed count = not (eqb count 0)
+
+-- The store that begins the preparation of the place p: it was found free, and the length follows from that which was read of the current place, and from how many snapshots were read to observe it since its tail was closed.
 abbrev pub MayBegin : ℕ → View → ℕ → ℕ → Type 0
-MayBegin first_len v p n = (q t l : ℕ) × (o : OpenTail) × (observed : Bool) × (v.stage ≡ Found q t p) × (v.notes.tail ≡ Some o) × (o.place ≡ q) × (o.position ≡ t) × (o.length ≡ Some l) × (n ≡ next_len_of first_len l observed)
+MayBegin first_len v p n = (q t l : ℕ) × (o : OpenTail) × (count : ℕ) × (v.stage ≡ Found q t p) × (v.notes.tail ≡ Some o) × (o.place ≡ q) × (o.position ≡ t) × (o.length ≡ Some l) × (v.notes.scan.observers ≡ Some (q, count)) × (n ≡ next_len_of first_len l (is_observed count))
 
 -- the store of its segment word, which follows from that which was read of the current place
 abbrev pub MayNumber : View → ℕ → ℕ → Type 0

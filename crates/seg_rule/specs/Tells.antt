@@ -86,11 +86,11 @@ abbrev pub sees_in_flight : QueueWord → ℕ → View → Bool
 sees_in_flight (Number p i) x v = is_idle v.hand && (is_front_slot (has_turn v.stage) p i v.notes.head v.notes.scan && is_free_by v.notes.head x)
 sees_in_flight _ x v = false
 
--- the position was enqueued, by a caller whose number is not held, so that there is another caller, and was not taken
+-- the position is the first one that was not taken, and was enqueued by a caller whose number is not held, so that there is another caller
 pub record IsInFlight (v : View) (position : ℕ) (history : List EntryMark) : Type 0 where
   pub putter : ℕ
   pub enqueued : slice_get (putters_of history) position ≡ Some putter
-  pub not_taken : (tally_of history).taken ≤ position
+  pub first : (tally_of history).taken ≡ position
   pub not_held : ¬ HasNumber v.held putter
   pub not_whole : ¬ IsWhole v
 

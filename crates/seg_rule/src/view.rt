@@ -83,6 +83,8 @@ pub struct Scan {
     pub current: Option<u64>,
     /// A place and its length.
     pub length: Option<(u64, u64)>,
+    /// A place and how many snapshots observe it.
+    pub observers: Option<(u64, u64)>,
     /// A place and the next one.
     pub next: Option<(u64, u64)>,
     /// The first segment ends above this head, or is the current one.
