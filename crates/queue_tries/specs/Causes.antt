@@ -26,7 +26,8 @@ module _ (read : List Obstacle) where
   abbrev pub FirstIsBare : Type 0
   FirstIsBare = (place head number : ℕ) × (number ≢ 2 * head + 1) × Contains read (NotPublished place head number)
 
-  -- A place is the current one, in the chain with an end above a head, has unfinished takes, or is observed.
+  -- A place is the current one, in the chain with an end above a head, has unfinished takes, or is observed. Of takes only the count
+  -- that is done is told, and of observers none: the rule files these two only where they were read as too few, and as some.
   abbrev pub IsInUse : ℕ → Type 0
   IsInUse place = Contains read (IsCurrent place) ⊎ (((end head : ℕ) × (head < end) × Contains read (InChain place end head)) ⊎ (((done : ℕ) × Contains read (Unfinished place done)) ⊎ Contains read (Observed place)))
 
