@@ -75,23 +75,23 @@ module _ (queue : QueueShape) (p q : segments.QueueView) (of : IsOf (id_of queue
   entry_as : (e : EntryMark) (receipt : Receipt) → tries.MakesEntry p q e receipt → AnswersOnce (queue_view p) (queue_view q) queue.form.first_len e receipt
   entry_as e receipt h = (h.below_limit, (h.before, h.ends, receipt_as e h.before receipt h.receipt_is, refl), h.counted)
 
-  none_as : (read : List Obstacle) → tries.MakesNone p q read → MakesNone (queue_view p) (queue_view q) read
-  none_as read h = record { below_limit = h.below_limit; same = h.same; no_entry = h.no_entry; counted = h.counted; met = h.met; window = refl }
+  none_as : (again : QueueAgain) (read : List Obstacle) → tries.MakesNone p q again read → MakesNone (queue_view p) (queue_view q) again read
+  none_as again read h = record { below_limit = h.below_limit; same = h.same; no_entry = h.no_entry; counted = h.counted; met = h.met; window = refl }
 
   -- One try of each call.
 
   pub enqueues_as : (value : ℕ) (r : QueueOnce EnqueueReply) → tries.Enqueues p q value r → EnqueuesOnce (queue_view p) (queue_view q) queue.form.first_len value r
   enqueues_as value (Answer reply receipt) h = entry_as _ receipt h
-  enqueues_as value (Again Lost) h = (h.0, none_as h.0 h.1, h.2)
-  enqueues_as value (Again Turn) h = (h.0, none_as h.0 h.1, h.2)
+  enqueues_as value (Again Lost) h = (h.0, none_as Lost h.0 h.1, h.2)
+  enqueues_as value (Again Turn) h = (h.0, none_as Turn h.0 h.1, h.2)
   enqueues_as value (Again InFlight) h = absurd h.2
-  enqueues_as value (Again NoPlace) h = (h.0, none_as h.0 h.1, h.2)
+  enqueues_as value (Again NoPlace) h = (h.0, none_as NoPlace h.0 h.1, h.2)
   enqueues_as value Spent h = record { at_limit = h.at_limit; same = ap queue_view h.same }
 
-  again_as : (again : QueueAgain) → (read : List Obstacle) × tries.MakesNone p q read × tries.DequeueCause p q read again → (read : List Obstacle) × MakesNone (queue_view p) (queue_view q) read × DequeueCause (queue_view p) (queue_view q) read again
-  again_as Lost h = (h.0, none_as h.0 h.1, h.2)
-  again_as Turn h = (h.0, none_as h.0 h.1, h.2)
-  again_as InFlight h = let c = h.2 in (h.0, none_as h.0 h.1, (c.0, c.1, c.2, record { putter = c.3.putter; enqueued = c.3.enqueued; first = c.3.first; not_held = c.3.not_held; not_whole = c.3.not_whole }))
+  again_as : (again : QueueAgain) → (read : List Obstacle) × tries.MakesNone p q again read × tries.DequeueCause p q read again → (read : List Obstacle) × MakesNone (queue_view p) (queue_view q) again read × DequeueCause (queue_view p) (queue_view q) read again
+  again_as Lost h = (h.0, none_as Lost h.0 h.1, h.2)
+  again_as Turn h = (h.0, none_as Turn h.0 h.1, h.2)
+  again_as InFlight h = let c = h.2 in (h.0, none_as InFlight h.0 h.1, (c.0, c.1, c.2, record { putter = c.3.putter; enqueued = c.3.enqueued; first = c.3.first; not_held = c.3.not_held; not_whole = c.3.not_whole }))
   again_as NoPlace h = absurd h.2
 
   pub dequeues_as : (r : QueueOnce DequeueReply) → tries.Dequeues p q r → DequeuesOnce (queue_view p) (queue_view q) queue.form.first_len r
@@ -106,8 +106,8 @@ module _ (queue : QueueShape) (p q : segments.QueueView) (of : IsOf (id_of queue
 
   pub counts_as : (r : QueueOnce ℕ) → tries.CountsOnce p q r → CountsOnce (queue_view p) (queue_view q) queue.form.first_len r
   counts_as (Answer count receipt) h = entry_as _ receipt h
-  counts_as (Again Lost) h = (h.0, none_as h.0 h.1, h.2)
-  counts_as (Again Turn) h = (h.0, none_as h.0 h.1, h.2)
+  counts_as (Again Lost) h = (h.0, none_as Lost h.0 h.1, h.2)
+  counts_as (Again Turn) h = (h.0, none_as Turn h.0 h.1, h.2)
   counts_as (Again InFlight) h = absurd h.2
   counts_as (Again NoPlace) h = absurd h.2
   counts_as Spent h = record { at_limit = h.at_limit; same = ap queue_view h.same }

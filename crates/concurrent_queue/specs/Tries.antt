@@ -16,7 +16,7 @@ use Rattle.seg_rule.specs.declared.view.Obstacle.{Obstacle}
 use Rattle.seg_rule.specs.declared.view.Obstacle.TheVariants.{Turned, Unpublished}
 use Rattle.seg_rule.specs.Tells.{places_in}
 use Rattle.queue_tries.specs.Causes.{HeadHasMoved, TailHasMoved, CurrentIsFull, FirstIsBare, AreInUse}
-use Rattle.queue_tries.specs.Tries.{enqueue_mark, dequeue_mark}
+use Rattle.queue_tries.specs.Tries.{IsCountOf, enqueue_mark, dequeue_mark}
 use Rattle.queue_tries.specs.declared.answers.EnqueueReply.{EnqueueReply}
 use Rattle.queue_tries.specs.declared.answers.DequeueReply.{DequeueReply}
 use Rattle.queue_tries.specs.declared.answers.QueueAgain.{QueueAgain}
@@ -29,9 +29,9 @@ use Rattle.concurrent_queue.specs.Passes.{QueueView, Answers}
 abbrev pub HasNoCallLeft : QueueView → Type 0
 HasNoCallLeft p = 2 ^ 48 ≤ slice_index p.pass.made p.pass.caller
 
--- the number of another caller stood in the turn word
-abbrev pub IsTurned : List Obstacle → QueueView → Type 0
-IsTurned read p = (caller : ℕ) × (caller < p.pass.callers) × (¬ HasNumber p.pass.held caller) × Contains read (Turned caller)
+-- after the obstacles before, and last, the number of another caller was read in the turn word
+abbrev pub IsTurned : List Obstacle → QueueView → List Obstacle → Type 0
+IsTurned read p before = (caller : ℕ) × (caller < p.pass.callers) × (¬ HasNumber p.pass.held caller) × (read ≡ before ++ Turned caller ∷ [])
 
 -- the position is the first one that was not taken, and was enqueued by another caller
 pub record IsInFlight (p : QueueView) (position : ℕ) (history : List EntryMark) : Type 0 where
@@ -42,12 +42,12 @@ pub record IsInFlight (p : QueueView) (position : ℕ) (history : List EntryMark
   pub not_whole : ¬ IsWhole p.pass
 
 module _ (p q : QueueView) where
-  -- No entry was made. The call may be counted, where it took the turn, and has read this of others. It had a call left.
-  pub record MakesNone (read : List Obstacle) : Type 0 where
+  -- No entry was made, for this cause. The call is counted where it took the turn, and has read this of others. It had a call left.
+  pub record MakesNone (again : QueueAgain) (read : List Obstacle) : Type 0 where
     pub below_limit : ¬ HasNoCallLeft p
     pub same : IsSamePass p.pass q.pass
     pub no_entry : AddsNoEntry number_priority p.pass q.pass
-    pub counted : (n : ℕ) × (n ≤ 1) × Counts n p.pass q.pass
+    pub counted : (n : ℕ) × IsCountOf again n × Counts n p.pass q.pass
     pub met : q.pass.met ≡ p.pass.met ++ read
     pub window : q.window ≡ p.window
 
@@ -64,19 +64,19 @@ module _ (p q : QueueView) where
 
   abbrev pub EnqueueCause : List Obstacle → QueueAgain → Type 0
   EnqueueCause read Lost = TailHasMoved read × (¬ IsWhole p.pass)
-  EnqueueCause read Turn = IsTurned read p × CurrentIsFull read × (¬ IsWhole p.pass)
+  EnqueueCause read Turn = (before : List Obstacle) × IsTurned read p before × CurrentIsFull before × (¬ IsWhole p.pass)
   EnqueueCause read InFlight = ⊥
-  EnqueueCause read NoPlace = AreInUse read (places_in p.pass.object p.pass.callers)
+  EnqueueCause read NoPlace = CurrentIsFull read × AreInUse read (places_in p.pass.object p.pass.callers)
 
   abbrev pub DequeueCause : List Obstacle → QueueAgain → Type 0
   DequeueCause read Lost = HeadHasMoved read × (¬ IsWhole p.pass)
-  DequeueCause read Turn = IsTurned read p × FirstIsBare read × (¬ IsWhole p.pass)
+  DequeueCause read Turn = (before : List Obstacle) × IsTurned read p before × FirstIsBare before × (¬ IsWhole p.pass)
   DequeueCause read InFlight = (place position : ℕ) × Contains read (Unpublished place position (2 * position)) × IsInFlight p position q.pass.seen
   DequeueCause read NoPlace = ⊥
 
   abbrev pub CountCause : List Obstacle → QueueAgain → Type 0
   CountCause read Lost = TailHasMoved read × (¬ IsWhole p.pass)
-  CountCause read Turn = IsTurned read p × (¬ IsWhole p.pass)
+  CountCause read Turn = IsTurned read p [] × (¬ IsWhole p.pass)
   CountCause read InFlight = ⊥
   CountCause read NoPlace = ⊥
 
@@ -85,20 +85,20 @@ module _ (p q : QueueView) where
 
     abbrev pub EnqueuesOnce : ℕ → QueueOnce EnqueueReply → Type 0
     EnqueuesOnce value (Answer reply receipt) = AnswersOnce first_len (entry p.pass.caller (callmark.Enq (value ∷ [])) (enqueue_mark reply)) receipt
-    EnqueuesOnce value (Again again) = (read : List Obstacle) × MakesNone read × EnqueueCause read again
+    EnqueuesOnce value (Again again) = (read : List Obstacle) × MakesNone again read × EnqueueCause read again
     EnqueuesOnce value Spent = IsSpent
 
     abbrev pub DequeuesOnce : QueueOnce DequeueReply → Type 0
     DequeuesOnce (Answer reply receipt) = AnswersOnce first_len (entry p.pass.caller callmark.Deq (dequeue_mark reply)) receipt
-    DequeuesOnce (Again again) = (read : List Obstacle) × MakesNone read × DequeueCause read again
+    DequeuesOnce (Again again) = (read : List Obstacle) × MakesNone again read × DequeueCause read again
     DequeuesOnce Spent = IsSpent
 
     abbrev pub PeeksOnce : QueueOnce DequeueReply → Type 0
     PeeksOnce (Answer reply receipt) = AnswersOnce first_len (entry p.pass.caller callmark.Peek (dequeue_mark reply)) receipt
-    PeeksOnce (Again again) = (read : List Obstacle) × MakesNone read × DequeueCause read again
+    PeeksOnce (Again again) = (read : List Obstacle) × MakesNone again read × DequeueCause read again
     PeeksOnce Spent = IsSpent
 
     abbrev pub CountsOnce : QueueOnce ℕ → Type 0
     CountsOnce (Answer count receipt) = AnswersOnce first_len (entry p.pass.caller callmark.Count (Counted count)) receipt
-    CountsOnce (Again again) = (read : List Obstacle) × MakesNone read × CountCause read again
+    CountsOnce (Again again) = (read : List Obstacle) × MakesNone again read × CountCause read again
     CountsOnce Spent = IsSpent

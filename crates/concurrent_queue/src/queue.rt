@@ -17,11 +17,13 @@ use std::sync::Wait;
 ///
 /// Items are stored in segments (`docs/QUEUE.md`). An enqueue of an open segment and a dequeue of a published
 /// item take no lock. A call waits for others only while they open a segment, count, or have enqueued the
-/// first item and not put it into its slot yet: never for room, nor for an item. It asks that its pass has no
-/// window open, as no pass has yet. A caller makes at most 2^48 calls: one more waits for good, or is `Spent`.
+/// first item and not put it into its slot yet; an enqueue also while takes of others that are not done, or
+/// snapshots, hold the places that the next segment could go to. It never waits for room, nor for an item. It
+/// asks that its pass has no window open, as no pass has yet. A caller makes at most 2^48 calls: one more waits
+/// for good, or is `Spent`.
 ///
-/// Each call has a form that tries once, and waits for nobody. Its answer counts one call of the caller, and
-/// an `Again` at most one.
+/// Each call has a form that tries once, and waits for nobody. Its answer counts one call of the caller, an
+/// `Again` with `InFlight` or `NoPlace` too; one with `Lost` counts at most one, and one with `Turn` none.
 #[derive(Drop)]
 pub struct ConcurrentQueue {
     table: QueueTable,

@@ -1,5 +1,5 @@
 -- The parts of a count put together.
-use Rattle.std.proofs.Common.{◌≡◌, ◌≢◌, ℕ, ◌*◌, [], ◌++◌, true, false, cond, eqb, refl, ap, ◌∙◌}
+use Rattle.std.proofs.Common.{◌≡◌, ◌≢◌, ℕ, ◌*◌, [], ◌++◌, true, false, cond, eqb, refl, ap, ◌∙◌, arith}
 use Rattle.std.specs.Prelude.{Some, None, ◌/◌}
 use Rattle.ho_model.specs.declared.marks.CallMark.TheVariants.{Count}
 use Rattle.ho_model.specs.declared.marks.ReplyMark.TheVariants.{Counted}
@@ -57,7 +57,7 @@ counts_lost v w u z z' place at a b k is =
 -- a count from the turn on is that of the whole call
 pub counts_end : (p q : QueueView) (w : View) (r : QueueOnce ℕ) → WalksPaid p.view w [] → q.table ≡ p.table → HasNumber p.view.held p.view.caller → (¬ HasNoCallLeft p) → CountsPaid w q.view r → CountsOnce p q r
 counts_end p q w (Answer count receipt) a table own below made = made_ends p q w [] Count (Counted count) (λ t. IsLook t receipt) receipt a.walks made table own below (λ t is. is)
-counts_end p q w (Again Lost) a table own below k = (k.0, paid_ends p q k.0 (paid_goes p.view w q.view [] k.0 a k.1) table own below, (k.2, not_whole p.view w [] a.walks k.3))
+counts_end p q w (Again Lost) a table own below k = (k.0, paid_ends p q Lost k.0 (omega arith) (paid_goes p.view w q.view [] k.0 a k.1) table own below, (k.2, not_whole p.view w [] a.walks k.3))
 counts_end p q w (Again Turn) a table own below k = absurd k
 counts_end p q w (Again InFlight) a table own below k = absurd k
 counts_end p q w (Again NoPlace) a table own below k = absurd k

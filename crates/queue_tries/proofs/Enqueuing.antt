@@ -175,13 +175,13 @@ module _ (v u w : View) (next t n : ℕ) (f : FindsPlace v next u) (is : w ≡ m
 
 full_more : (read more : List Obstacle) → CurrentIsFull read → CurrentIsFull (read ++ more)
 full_more read more (inl closed) = inl (closed.0, Contains-append_left read more (ClosedCurrent closed.0) closed.1)
-full_more read more (inr taken) = inr (taken.0, taken.1, taken.2, Contains-append_left read more (NotFree taken.0 taken.1 taken.2) taken.3)
+full_more read more (inr taken) = inr (taken.0, taken.1, taken.2, taken.3, Contains-append_left read more (NotFree taken.0 taken.1 taken.2) taken.4)
 
 module _ (p q : QueueView) (u : View) (begun : WalksFree p.view u []) (table : q.table ≡ p.table) (own : HasNumber p.view.held p.view.caller) (below : ¬ HasNoCallLeft p) where
-  pub once_lost : LosesTail u q.view → (read : List Obstacle) × MakesNone p q read × (TailHasMoved read × (¬ IsWhole p.view))
+  pub once_lost : LosesTail u q.view → (read : List Obstacle) × MakesNone p q Lost read × (TailHasMoved read × (¬ IsWhole p.view))
   once_lost n = (
     n.read,
-    free_ends p q n.read (free_goes p.view u q.view [] n.read begun n.goes n.free.1) table own below,
+    free_ends p q Lost n.read (omega arith) (free_goes p.view u q.view [] n.read begun n.goes n.free.1) table own below,
     (n.moved, not_whole p.view u [] begun.walks n.others),
   )
 
@@ -199,18 +199,18 @@ module _ (p q : QueueView) (u w : View) (begun : WalksFree p.view u []) (end : F
       (λ t k. subst (λ (z : Object). IsQueueReceipt (first_len_in z) (Enq (item ∷ [])) (enqueue_mark reply) t receipt) before.walks.object k)
   once_turned item (Again Lost) n = (
     end.read ++ n.read,
-    paid_ends p q (end.read ++ n.read) (paid_goes p.view (turned w) q.view end.read n.read paid n.goes) table own below,
+    paid_ends p q Lost (end.read ++ n.read) (omega arith) (paid_goes p.view (turned w) q.view end.read n.read paid n.goes) table own below,
     ((n.moved.0, n.moved.1, n.moved.2, Contains-append_right end.read n.read (TailMoved n.moved.0 n.moved.1) n.moved.3), not_whole p.view (turned w) end.read paid.walks n.others),
   )
   once_turned item (Again NoPlace) n = (
     end.read ++ n.read,
-    paid_ends p q (end.read ++ n.read) (paid_goes p.view (turned w) q.view end.read n.read paid n.goes) table own below,
-    λ place less. in_use_more n.read (end.read ++ n.read) place (Contains-append_right end.read n.read) (n.in_use place (subst (λ (k : ℕ). place < k) (λ i. places_in (sym paid.walks.object i) (sym paid.walks.callers i)) less)),
+    paid_ends p q NoPlace (end.read ++ n.read) refl (paid_goes p.view (turned w) q.view end.read n.read paid n.goes) table own below,
+    (full_more end.read n.read end.full, λ place less. in_use_more n.read (end.read ++ n.read) place (Contains-append_right end.read n.read) (n.in_use place (subst (λ (k : ℕ). place < k) (λ i. places_in (sym paid.walks.object i) (sym paid.walks.callers i)) less))),
   )
   once_turned item (Again Turn) n = let m = walks_missed p.view w q.view end.read n.0 before n.1 in (
     end.read ++ Turned n.1.caller ∷ [],
-    free_ends p q (end.read ++ Turned n.1.caller ∷ []) m.0 table own below,
-    (m.1, full_more end.read (Turned n.1.caller ∷ []) end.full, m.2),
+    free_ends p q Turn (end.read ++ Turned n.1.caller ∷ []) refl m.0 table own below,
+    (end.read, m.1, end.full, m.2),
   )
   once_turned item (Again InFlight) n = absurd n
   once_turned item Spent n = absurd n

@@ -115,6 +115,7 @@ module _ (place head slot length x : ℕ) (v m w : View) (left : m ≡ sized v p
           place,
           head,
           x,
+          other,
           Contains-append_right (not_free_obstacles place slot x m.notes.scan m.notes.tail) (not_published_obstacles place slot x m.notes.head m.notes.scan ++ unpublished_obstacles (has_turn m.stage) place slot x m.notes.head m.notes.scan) (NotPublished place head x)
               (Contains-append_left (not_published_obstacles place slot x m.notes.head m.notes.scan) (unpublished_obstacles (has_turn m.stage) place slot x m.notes.head m.notes.scan) (NotPublished place head x) its),
         );

@@ -20,6 +20,7 @@ use Rattle.seg_rule.specs.Tells.{first_len_in}
 use Rattle.seg_rule.specs.Passes.{QueueView, pass_of}
 use Rattle.queue_tries.specs.Tries.{MakesEntry, MakesNone, IsSpent}
 use Rattle.queue_tries.specs.Lasting.{Ends, TriesOn}
+use Rattle.queue_tries.specs.declared.answers.QueueAgain.{QueueAgain}
 use Rattle.queue_tries.proofs.Walks.{not_counted}
 
 -- before the first try
@@ -50,8 +51,8 @@ module _ (p q r : QueueView) (t : TriesOn p q) where
   met_more read is = (t.met.0 ++ read, is ∙ (ap (λ (z : List Obstacle). z ++ read) t.met.1 ∙ append_assoc p.view.met t.met.0 read))
 
   -- a try that made none
-  pub tries_on : (read : List Obstacle) → MakesNone q r read → TriesOn p r
-  tries_on read n = record {
+  pub tries_on : (again : QueueAgain) (read : List Obstacle) → MakesNone q r again read → TriesOn p r
+  tries_on again read n = record {
     table = n.same.table ∙ t.table;
     object = n.same.object ∙ t.object;
     callers = n.same.callers ∙ t.callers;

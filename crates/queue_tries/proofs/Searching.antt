@@ -1,5 +1,5 @@
 -- How the search of the first item ends.
-use Rattle.std.proofs.Common.{◌≡◌, ℕ, ◌*◌, inl, inr, ⊎_elim, Bool, List, [], ◌∷◌, ◌++◌, sym, refl, ap, ◌∙◌, subst, append_assoc}
+use Rattle.std.proofs.Common.{◌≡◌, ℕ, ◌*◌, inl, inr, ⊎_elim, Bool, List, [], ◌∷◌, ◌++◌, sym, refl, ap, ◌∙◌, subst, arith, append_assoc}
 use Rattle.std.specs.Prelude.{Option, None, Some}
 use Rattle.std.proofs.lemmas.List.Elements.{Contains-append_left, Contains-append_right, Contains-push}
 use Rattle.ho_base.specs.Marks.{number_priority}
@@ -29,7 +29,7 @@ use Rattle.queue_tries.specs.declared.answers.QueueOnce.TheVariants.{Answer, Aga
 use Rattle.queue_tries.specs.declared.answers.QueueAgain.TheVariants as again
 use Rattle.queue_tries.specs.declared.fronts.Search.{Search}
 use Rattle.queue_tries.specs.declared.fronts.Search.TheVariants as search_end
-use Rattle.queue_tries.specs.Fronts.{begun_first, headed, IsBare, IsNotEmpty, IsLost, HasFront, SeesFlight, EndsAs, Walked, FindsInside, FindsFront, Asks, asked}
+use Rattle.queue_tries.specs.Fronts.{begun_first, headed, IsBare, IsNotEmpty, IsLost, HasFront, SeesFlight, EndsAs, EndsInside, Walked, FindsInside, FindsFront, Asks, asked}
 use Rattle.queue_tries.proofs.Walks.{goes_on, goes_met, goes_quiet, walks_begin, walks_turned, walks_missed, free_goes, paid_goes, not_whole, made_ends, free_ends, paid_ends}
 use Rattle.queue_tries.proofs.Fronting.{in_flight_of}
 
@@ -42,7 +42,7 @@ looked_bare place head v a b c d rest lawful begun read_head bare kept full left
     let two : WalksFree v b [] = free_goes v a b [] [] one (goes_quiet a b (headed a head).notes a.stage read_head) away in
     let three : WalksFree v c bare.read = free_goes v b c [] bare.read two bare.goes (kept ∙ away) in
     let f = bare.bare in
-    (bare.read ++ full.read, free_goes v c d bare.read full.read three full.goes (left ∙ (kept ∙ away)), (f.0, f.1, f.2, Contains-append_left bare.read full.read (NotPublished f.0 f.1 f.2) f.3))
+    (bare.read ++ full.read, free_goes v c d bare.read full.read three full.goes (left ∙ (kept ∙ away)), (f.0, f.1, f.2, f.3, Contains-append_left bare.read full.read (NotPublished f.0 f.1 f.2) f.4))
 
 -- A head that has moved on, seen from an earlier point of the call.
 pub lost_after : (v w u : View) (first : List Obstacle) → GoesOn v w first → IsLost w u → IsLost v u
@@ -60,12 +60,22 @@ module _ (p q : QueueView) (table : q.table ≡ p.table) (own : HasNumber p.view
   pub walked_goes : (more : List Obstacle) → GoesOn w q.view more → Walked p.view q.view (read ++ more)
   walked_goes more g = ⊎_elim (λ (a : WalksFree p.view w read). inl (free_goes p.view w q.view read more a g away)) (λ (a : WalksPaid p.view w read). inr (paid_goes p.view w q.view read more a g)) walked
 
-  walked_none : (r : QueueView) (more : List Obstacle) → r.table ≡ p.table → Walked p.view r.view more → MakesNone p r more
-  walked_none r more same = ⊎_elim (λ (a : WalksFree p.view r.view more). free_ends p r more a same own below) (λ (a : WalksPaid p.view r.view more). paid_ends p r more a same own below)
+  walked_none : (more : List Obstacle) → Walked p.view q.view more → MakesNone p q again.Lost more
+  walked_none more = ⊎_elim (λ (a : WalksFree p.view q.view more). free_ends p q again.Lost more (omega arith) a table own below) (λ (a : WalksPaid p.view q.view more). paid_ends p q again.Lost more (omega arith) a table own below)
 
+  pub ends_asks : (call : CallMark) (once : QueueOnce DequeueReply) → EndsAs call w q.view once → Asks p q call once
+  ends_asks call (Answer reply receipt) n = made_ends p q w read call (dequeue_mark reply) (λ t. IsQueueReceipt (first_len_in w.object) call (dequeue_mark reply) t receipt) receipt walks n table own below
+      (λ t r. subst (λ (o : Object). IsQueueReceipt (first_len_in o) call (dequeue_mark reply) t receipt) walks.object r)
+  ends_asks call (Again again.Lost) n = let m = n.2 in (read ++ n.0, walked_none (read ++ n.0) (walked_goes n.0 n.1), ((m.0, m.1, m.2, Contains-append_right read n.0 (HeadMoved m.0 m.1) m.3), not_whole p.view w read walks n.3))
+  ends_asks call (Again again.InFlight) n = absurd n
+  ends_asks call (Again again.Turn) n = absurd n
+  ends_asks call (Again again.NoPlace) n = absurd n
+  ends_asks call Spent n = absurd n
+
+module _ (p q : QueueView) (table : q.table ≡ p.table) (own : HasNumber p.view.held p.view.caller) (below : ¬ HasNoCallLeft p) (away : q.view.stage ≡ Away) (w : View) (read : List Obstacle) (paid : WalksPaid p.view w read) where
   -- the try ends with the head in flight
-  flight_none : (f : SeesFlight w q.view) → MakesNone p q (read ++ f.read)
-  flight_none f = let before : MakesNone p (record { table = p.table; view = w }) read = walked_none (record { table = p.table; view = w }) read refl walked in let s = before.same in record {
+  flight_none : (f : SeesFlight w q.view) → MakesNone p q again.InFlight (read ++ f.read)
+  flight_none f = let before : MakesNone p (record { table = p.table; view = w }) again.InFlight read = paid_ends p (record { table = p.table; view = w }) again.InFlight read refl paid refl own below in let s = before.same in record {
     below_limit = below;
     same = record {
       table = table;
@@ -76,22 +86,21 @@ module _ (p q : QueueView) (table : q.table ≡ p.table) (own : HasNumber p.view
       own = subst (λ (z : List Bool × ℕ). HasNumber z.0 z.1) (λ i. (sym f.held i, sym f.caller i)) s.own;
     };
     no_entry = record {
-      seen = subst (λ (z : List Bool × List EntryMark). SeesOthers z.0 z.1 q.view.seen) (λ i. (walks.held i, walks.seen i)) f.seen;
-      lawful = subst (λ (z : Object × ℕ). IsLawful number_priority z.0 z.1 q.view.seen) (λ i. (walks.object i, walks.callers i)) f.lawful;
+      seen = subst (λ (z : List Bool × List EntryMark). SeesOthers z.0 z.1 q.view.seen) (λ i. (paid.walks.held i, paid.walks.seen i)) f.seen;
+      lawful = subst (λ (z : Object × ℕ). IsLawful number_priority z.0 z.1 q.view.seen) (λ i. (paid.walks.object i, paid.walks.callers i)) f.lawful;
     };
     counted = let n = before.counted in (n.0, n.1, f.made ∙ n.2);
     met = f.met ∙ (ap (λ (z : List Obstacle). z ++ f.read) before.met ∙ append_assoc p.view.met read f.read);
   }
 
-  pub ends_asks : (call : CallMark) (once : QueueOnce DequeueReply) → EndsAs call w q.view once → Asks p q call once
-  ends_asks call (Answer reply receipt) n = made_ends p q w read call (dequeue_mark reply) (λ t. IsQueueReceipt (first_len_in w.object) call (dequeue_mark reply) t receipt) receipt walks n table own below
-      (λ t r. subst (λ (o : Object). IsQueueReceipt (first_len_in o) call (dequeue_mark reply) t receipt) walks.object r)
-  ends_asks call (Again again.Lost) n = let m = n.2 in (read ++ n.0, walked_none q (read ++ n.0) table (walked_goes n.0 n.1), ((m.0, m.1, m.2, Contains-append_right read n.0 (HeadMoved m.0 m.1) m.3), not_whole p.view w read walks n.3))
-  ends_asks call (Again again.InFlight) f =
-      (read ++ f.read, flight_none f, (f.place, f.head, Contains-append_right read f.read (Unpublished f.place f.head (2 * f.head)) f.unpublished, in_flight_of w p.view f.head q.view.seen (sym walks.callers) (sym walks.held) f.flight))
-  ends_asks call (Again again.Turn) n = absurd n
-  ends_asks call (Again again.NoPlace) n = absurd n
-  ends_asks call Spent n = absurd n
+  pub ends_inside : (call : CallMark) (once : QueueOnce DequeueReply) → EndsInside call w q.view once → Asks p q call once
+  ends_inside call (Answer reply receipt) n = ends_asks p q table own below away w read (inr paid) call (Answer reply receipt) n
+  ends_inside call (Again again.Lost) n = ends_asks p q table own below away w read (inr paid) call (Again again.Lost) n
+  ends_inside call (Again again.InFlight) f =
+      (read ++ f.read, flight_none f, (f.place, f.head, Contains-append_right read f.read (Unpublished f.place f.head (2 * f.head)) f.unpublished, in_flight_of w p.view f.head q.view.seen (sym paid.walks.callers) (sym paid.walks.held) f.flight))
+  ends_inside call (Again again.Turn) n = absurd n
+  ends_inside call (Again again.NoPlace) n = absurd n
+  ends_inside call Spent n = absurd n
 
 -- after a search under the turn
 pub finds_under_turn : (p q : QueueView) → q.table ≡ p.table → HasNumber p.view.held p.view.caller → (¬ HasNoCallLeft p) → q.view.stage ≡ Away → (w u : View) (read : List Obstacle) → WalksFree p.view w read → u ≡ turned w → (peek : Bool) (found : Search) → FindsInside u peek found q.view → FindsFront p q peek found
@@ -99,13 +108,13 @@ finds_under_turn p q table own below away w u read free is peek (search_end.Foun
     let paid : WalksPaid p.view u read = walks_turned p.view w u read free is in
     let later : WalksPaid p.view q.view (read ++ f.0) = paid_goes p.view u q.view read f.0 paid f.1 in
     (read ++ f.0, inr later, (subst (λ (z : List Bool × ℕ). HasNumber z.0 z.1) (λ i. (sym later.walks.held i, sym later.walks.caller i)) own, inl later.paid), f.2)
-finds_under_turn p q table own below away w u read free is peek (search_end.Ended once) n = ends_asks p q table own below away u read (inr (walks_turned p.view w u read free is)) (asked peek) once n
+finds_under_turn p q table own below away w u read free is peek (search_end.Ended once) n = ends_inside p q table own below away u read (walks_turned p.view w u read free is) (asked peek) once n
 
 -- another caller had the turn
-pub misses_turn : (p q : QueueView) → q.table ≡ p.table → HasNumber p.view.held p.view.caller → (¬ HasNoCallLeft p) → (w : View) (read : List Obstacle) (x : ℕ) → WalksFree p.view w read → FirstIsBare read → MissesTurn w x q.view → (more : List Obstacle) × MakesNone p q more × DequeueCause p q more again.Turn
+pub misses_turn : (p q : QueueView) → q.table ≡ p.table → HasNumber p.view.held p.view.caller → (¬ HasNoCallLeft p) → (w : View) (read : List Obstacle) (x : ℕ) → WalksFree p.view w read → FirstIsBare read → MissesTurn w x q.view → (more : List Obstacle) × MakesNone p q again.Turn more × DequeueCause p q more again.Turn
 misses_turn p q table own below w read x free bare m =
     let t = walks_missed p.view w q.view read x free m in
-    (read ++ Turned m.caller ∷ [], free_ends p q (read ++ Turned m.caller ∷ []) t.0 table own below, (t.1, (bare.0, bare.1, bare.2, Contains-append_left read (Turned m.caller ∷ []) (NotPublished bare.0 bare.1 bare.2) bare.3), t.2))
+    (read ++ Turned m.caller ∷ [], free_ends p q again.Turn (read ++ Turned m.caller ∷ []) refl t.0 table own below, (read, t.1, bare, t.2))
 
 -- a dequeue, and a peek
 

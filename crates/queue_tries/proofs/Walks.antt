@@ -35,7 +35,8 @@ use Rattle.seg_rule.specs.Plays.{Reads}
 use Rattle.seg_rule.specs.Tells.{first_len_in, sees_in_flight, Sees}
 use Rattle.seg_rule.specs.Passes.{QueueShape, QueueView, IsOf, pass_of}
 use Rattle.queue_tries.specs.Causes.{TailHasMoved, IsTurned}
-use Rattle.queue_tries.specs.Tries.{MakesEntry, MakesNone, HasNoCallLeft}
+use Rattle.queue_tries.specs.Tries.{IsCountOf, MakesEntry, MakesNone, HasNoCallLeft}
+use Rattle.queue_tries.specs.declared.answers.QueueAgain.{QueueAgain}
 use Rattle.queue_tries.specs.Loads.{told_alone}
 use Rattle.queue_tries.specs.Walks.{counted, Keeps, GoesOn, Walks, WalksFree, WalksPaid, Made}
 
@@ -289,14 +290,14 @@ pub tail_moved_among : (before read after : List Obstacle) → TailHasMoved read
 tail_moved_among before read after m = (m.0, m.1, m.2, Contains-append_right before (read ++ after) (TailMoved m.0 m.1) (Contains-append_left read after (TailMoved m.0 m.1) m.3))
 
 -- it misses the turn
-pub walks_missed : (v w u : View) (read : List Obstacle) (x : ℕ) → WalksFree v w read → (m : MissesTurn w x u) → WalksFree v u (read ++ Turned m.caller ∷ []) × IsTurned (read ++ Turned m.caller ∷ []) v × (¬ IsWhole v)
+pub walks_missed : (v w u : View) (read : List Obstacle) (x : ℕ) → WalksFree v w read → (m : MissesTurn w x u) → WalksFree v u (read ++ Turned m.caller ∷ []) × IsTurned (read ++ Turned m.caller ∷ []) v read × (¬ IsWhole v)
 walks_missed v w u read x a m = (
   free_goes v w u read (Turned m.caller ∷ []) a (goes_met w u (Turned m.caller ∷ []) w.notes w.stage m.left) (ap (λ (z : View). z.stage) m.left ∙ a.away),
   (
     m.caller,
     subst (λ (n : ℕ). m.caller < n) a.walks.callers m.is_caller.1,
     subst (λ (held : List Bool). ¬ HasNumber held m.caller) a.walks.held m.not_held,
-    Contains-push read (Turned m.caller),
+    refl,
   ),
   not_whole v w read a.walks m.not_whole,
 )
@@ -404,8 +405,8 @@ made_ends p q w read call reply counts receipt a n table own below receipt_is =
       counted = made;
     }
 
-none_ends : (p q : QueueView) (read : List Obstacle) (n : ℕ) → n ≤ 1 → Counts n (pass_of p) (pass_of q) → Walks p.view q.view read → q.table ≡ p.table → HasNumber p.view.held p.view.caller → (¬ HasNoCallLeft p) → MakesNone p q read
-none_ends p q read n few made a table own below = record {
+none_ends : (p q : QueueView) (again : QueueAgain) (read : List Obstacle) (n : ℕ) → IsCountOf again n → Counts n (pass_of p) (pass_of q) → Walks p.view q.view read → q.table ≡ p.table → HasNumber p.view.held p.view.caller → (¬ HasNoCallLeft p) → MakesNone p q again read
+none_ends p q again read n few made a table own below = record {
   below_limit = below;
   same = same_pass p q table own a.object a.callers a.caller a.held;
   no_entry = record {
@@ -422,9 +423,9 @@ not_counted (x ∷ made) zero = ap (λ (n : ℕ). n ∷ made) (omega arith)
 not_counted (x ∷ made) (suc c) = ap (λ (l : List ℕ). x ∷ l) (not_counted made c)
 
 -- none was made, without the turn
-pub free_ends : (p q : QueueView) (read : List Obstacle) → WalksFree p.view q.view read → q.table ≡ p.table → HasNumber p.view.held p.view.caller → (¬ HasNoCallLeft p) → MakesNone p q read
-free_ends p q read a = none_ends p q read 0 (omega arith) (a.made ∙ not_counted p.view.made p.view.caller) a.walks
+pub free_ends : (p q : QueueView) (again : QueueAgain) (read : List Obstacle) → IsCountOf again 0 → WalksFree p.view q.view read → q.table ≡ p.table → HasNumber p.view.held p.view.caller → (¬ HasNoCallLeft p) → MakesNone p q again read
+free_ends p q again read none a = none_ends p q again read 0 none (a.made ∙ not_counted p.view.made p.view.caller) a.walks
 
 -- and with it
-pub paid_ends : (p q : QueueView) (read : List Obstacle) → WalksPaid p.view q.view read → q.table ≡ p.table → HasNumber p.view.held p.view.caller → (¬ HasNoCallLeft p) → MakesNone p q read
-paid_ends p q read a = none_ends p q read 1 (omega arith) a.made a.walks
+pub paid_ends : (p q : QueueView) (again : QueueAgain) (read : List Obstacle) → IsCountOf again 1 → WalksPaid p.view q.view read → q.table ≡ p.table → HasNumber p.view.held p.view.caller → (¬ HasNoCallLeft p) → MakesNone p q again read
+paid_ends p q again read one a = none_ends p q again read 1 one a.made a.walks

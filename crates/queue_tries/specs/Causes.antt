@@ -1,5 +1,5 @@
 -- Why a try gave no answer: what it has read of others.
-use Rattle.std.specs.Prelude.{ℕ, ◌<◌, ◌⊎◌, List, Contains}
+use Rattle.std.specs.Prelude.{◌≡◌, ◌≢◌, ℕ, ◌+◌, ◌*◌, ◌<◌, ◌++◌, ◌⊎◌, List, [], ◌∷◌, Contains}
 use Rattle.passes.specs.Numbers.{HasNumber}
 use Rattle.seg_rule.specs.declared.view.View.{View}
 use Rattle.seg_rule.specs.declared.view.Obstacle.{Obstacle}
@@ -14,19 +14,20 @@ module _ (read : List Obstacle) where
   abbrev pub TailHasMoved : Type 0
   TailHasMoved = (tail later : ℕ) × (tail < later) × Contains read (TailMoved tail later)
 
-  -- the number of another caller stood in the turn word
-  abbrev pub IsTurned : View → Type 0
-  IsTurned v = (caller : ℕ) × (caller < v.callers) × (¬ HasNumber v.held caller) × Contains read (Turned caller)
+  -- after this, and last, the number of another caller was read in the turn word
+  abbrev pub IsTurned : View → List Obstacle → Type 0
+  IsTurned v before = (caller : ℕ) × (caller < v.callers) × (¬ HasNumber v.held caller) × (read ≡ before ++ Turned caller ∷ [])
 
   -- in the place read as current the tail was closed, or the slot of its open tail was not free for it
   abbrev pub CurrentIsFull : Type 0
-  CurrentIsFull = ((place : ℕ) × Contains read (ClosedCurrent place)) ⊎ ((place tail number : ℕ) × Contains read (NotFree place tail number))
+  CurrentIsFull = ((place : ℕ) × Contains read (ClosedCurrent place)) ⊎ ((place tail number : ℕ) × (number ≢ 2 * tail) × Contains read (NotFree place tail number))
 
   -- in the place read as first the slot of the head was not published for it
   abbrev pub FirstIsBare : Type 0
-  FirstIsBare = (place head number : ℕ) × Contains read (NotPublished place head number)
+  FirstIsBare = (place head number : ℕ) × (number ≢ 2 * head + 1) × Contains read (NotPublished place head number)
 
-  -- A place is the current one, in the chain with an end above a head, has unfinished takes, or is observed.
+  -- A place is the current one, in the chain with an end above a head, has unfinished takes, or is observed. Of takes only the count
+  -- that is done is told, and of observers none: the rule files these two only where they were read as too few, and as some.
   abbrev pub IsInUse : ℕ → Type 0
   IsInUse place = Contains read (IsCurrent place) ⊎ (((end head : ℕ) × (head < end) × Contains read (InChain place end head)) ⊎ (((done : ℕ) × Contains read (Unfinished place done)) ⊎ Contains read (Observed place)))
 

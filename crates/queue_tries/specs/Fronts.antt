@@ -151,10 +151,15 @@ IsLost v w = (read : List Obstacle) × GoesOn v w read × HeadHasMoved read × (
 abbrev pub EndsAs : CallMark → View → View → QueueOnce DequeueReply → Type 0
 EndsAs call v w (Answer reply receipt) = Made v (entry v.caller call (dequeue_mark reply)) (λ t. IsQueueReceipt (first_len_in v.object) call (dequeue_mark reply) t receipt) w
 EndsAs call v w (Again Lost) = IsLost v w
-EndsAs call v w (Again InFlight) = SeesFlight v w
+EndsAs call v w (Again InFlight) = ⊥
 EndsAs call v w (Again Turn) = ⊥
 EndsAs call v w (Again NoPlace) = ⊥
 EndsAs call v w Spent = ⊥
+
+-- The same under the turn, where the head may be in flight.
+abbrev pub EndsInside : CallMark → View → View → QueueOnce DequeueReply → Type 0
+EndsInside call v w (Again InFlight) = SeesFlight v w
+EndsInside call v w once = EndsAs call v w once
 
 -- a try with or without the turn, which it does not have now
 abbrev pub Walked : View → View → List Obstacle → Type 0
@@ -175,7 +180,7 @@ LooksInside v peek turned.Gone w = (head : ℕ) × IsGone v head w
 
 abbrev pub FindsInside : View → Bool → Search → View → Type 0
 FindsInside v peek (search_end.Found place head item) w = (read : List Obstacle) × GoesOn v w read × HasFront w place head item
-FindsInside v peek (search_end.Ended once) w = EndsAs (asked peek) v w once
+FindsInside v peek (search_end.Ended once) w = EndsInside (asked peek) v w once
 
 -- Places and slots are those of the table.
 
@@ -199,7 +204,7 @@ module _ (p q : QueueView) where
   -- a dequeue or a peek
   abbrev pub Asks : CallMark → QueueOnce DequeueReply → Type 0
   Asks call (Answer reply receipt) = MakesEntry p q (entry p.view.caller call (dequeue_mark reply)) receipt
-  Asks call (Again again) = (read : List Obstacle) × MakesNone p q read × DequeueCause p q read again
+  Asks call (Again again) = (read : List Obstacle) × MakesNone p q again read × DequeueCause p q read again
   Asks call Spent = IsSpent p q
 
   abbrev pub FindsFront : Bool → Search → Type 0

@@ -64,7 +64,7 @@ pub record HasScanned (v : View) (current head count : ℕ) (w : View) : Type 0 
   pub met : Contains read (IsCurrent current)
   pub in_use : AreInUse read count
 
--- the least free place of so many, or all are in use
+-- a free place, or so many are all in use
 abbrev pub Searches : View → ℕ → Option ℕ → View → Type 0
 Searches v places (Some place) w = FindsPlace v place w
 Searches v places None w = (read : List Obstacle) × (scan : Scan) × (w ≡ scanned v read scan) × AreInUse read places

@@ -64,6 +64,7 @@ pub record FindsFull (v : View) (place t length : ℕ) (w : View) : Type 0 where
   pub left : w ≡ noticed v (NotFree place t number ∷ []) notes
   pub head : notes.head ≡ v.notes.head
   pub tail : notes.tail ≡ Some (full_tail place t length)
+  pub taken : number ≢ 2 * t
   pub is_length : IsSegmentLength (first_len_in v.object) length
 
 abbrev pub SeesSlot : View → ℕ → ℕ → Option ℕ → View → Type 0

@@ -43,6 +43,13 @@ abbrev pub dequeue_mark : DequeueReply → ReplyMark
 dequeue_mark (dequeue.Item item) = replymark.Item (item ∷ [])
 dequeue_mark dequeue.Empty = replymark.Empty
 
+-- How often a try is counted that made no entry: once where it took the turn, which that of a lost exchange did or not.
+abbrev pub IsCountOf : QueueAgain → ℕ → Type 0
+IsCountOf Lost n = n ≤ 1
+IsCountOf Turn n = n ≡ 0
+IsCountOf InFlight n = n ≡ 1
+IsCountOf NoPlace n = n ≡ 1
+
 module _ (p q : QueueView) where
   -- One call is counted, which made this entry. The receipt is that of the entry, for the counts of the entries before it.
   pub record MakesEntry (e : EntryMark) (receipt : Receipt) : Type 0 where
@@ -52,12 +59,12 @@ module _ (p q : QueueView) where
     pub receipt_is : IsQueueReceipt (first_len_in p.view.object) e.call e.reply (tally_of before) receipt
     pub counted : Counts 1 (pass_of p) (pass_of q)
 
-  -- No entry was made. The call may be counted, where it took the turn, and has read this of others.
-  pub record MakesNone (read : List Obstacle) : Type 0 where
+  -- No entry was made, for this cause. The call is counted where it took the turn, and has read this of others.
+  pub record MakesNone (again : QueueAgain) (read : List Obstacle) : Type 0 where
     pub below_limit : ¬ HasNoCallLeft p
     pub same : IsSamePass (pass_of p) (pass_of q)
     pub no_entry : AddsNoEntry number_priority (pass_of p) (pass_of q)
-    pub counted : (n : ℕ) × (n ≤ 1) × Counts n (pass_of p) (pass_of q)
+    pub counted : (n : ℕ) × IsCountOf again n × Counts n (pass_of p) (pass_of q)
     pub met : q.view.met ≡ p.view.met ++ read
 
   -- A caller that has no call left changes nothing.
@@ -69,19 +76,19 @@ module _ (p q : QueueView) where
 
   abbrev pub EnqueueCause : List Obstacle → QueueAgain → Type 0
   EnqueueCause read Lost = TailHasMoved read × (¬ IsWhole p.view)
-  EnqueueCause read Turn = IsTurned read p.view × CurrentIsFull read × (¬ IsWhole p.view)
+  EnqueueCause read Turn = (before : List Obstacle) × IsTurned read p.view before × CurrentIsFull before × (¬ IsWhole p.view)
   EnqueueCause read InFlight = ⊥
-  EnqueueCause read NoPlace = AreInUse read (place_count p.view)
+  EnqueueCause read NoPlace = CurrentIsFull read × AreInUse read (place_count p.view)
 
   abbrev pub DequeueCause : List Obstacle → QueueAgain → Type 0
   DequeueCause read Lost = HeadHasMoved read × (¬ IsWhole p.view)
-  DequeueCause read Turn = IsTurned read p.view × FirstIsBare read × (¬ IsWhole p.view)
+  DequeueCause read Turn = (before : List Obstacle) × IsTurned read p.view before × FirstIsBare before × (¬ IsWhole p.view)
   DequeueCause read InFlight = (place position : ℕ) × Contains read (Unpublished place position (2 * position)) × IsInFlight p.view position q.view.seen
   DequeueCause read NoPlace = ⊥
 
   abbrev pub CountCause : List Obstacle → QueueAgain → Type 0
   CountCause read Lost = TailHasMoved read × (¬ IsWhole p.view)
-  CountCause read Turn = IsTurned read p.view × (¬ IsWhole p.view)
+  CountCause read Turn = IsTurned read p.view [] × (¬ IsWhole p.view)
   CountCause read InFlight = ⊥
   CountCause read NoPlace = ⊥
 
@@ -89,20 +96,20 @@ module _ (p q : QueueView) where
 
   abbrev pub Enqueues : ℕ → QueueOnce EnqueueReply → Type 0
   Enqueues value (Answer reply receipt) = MakesEntry (entry p.view.caller (callmark.Enq (value ∷ [])) (enqueue_mark reply)) receipt
-  Enqueues value (Again again) = (read : List Obstacle) × MakesNone read × EnqueueCause read again
+  Enqueues value (Again again) = (read : List Obstacle) × MakesNone again read × EnqueueCause read again
   Enqueues value Spent = IsSpent
 
   abbrev pub Dequeues : QueueOnce DequeueReply → Type 0
   Dequeues (Answer reply receipt) = MakesEntry (entry p.view.caller callmark.Deq (dequeue_mark reply)) receipt
-  Dequeues (Again again) = (read : List Obstacle) × MakesNone read × DequeueCause read again
+  Dequeues (Again again) = (read : List Obstacle) × MakesNone again read × DequeueCause read again
   Dequeues Spent = IsSpent
 
   abbrev pub Peeks : QueueOnce DequeueReply → Type 0
   Peeks (Answer reply receipt) = MakesEntry (entry p.view.caller callmark.Peek (dequeue_mark reply)) receipt
-  Peeks (Again again) = (read : List Obstacle) × MakesNone read × DequeueCause read again
+  Peeks (Again again) = (read : List Obstacle) × MakesNone again read × DequeueCause read again
   Peeks Spent = IsSpent
 
   abbrev pub CountsOnce : QueueOnce ℕ → Type 0
   CountsOnce (Answer count receipt) = MakesEntry (entry p.view.caller callmark.Count (replymark.Counted count)) receipt
-  CountsOnce (Again again) = (read : List Obstacle) × MakesNone read × CountCause read again
+  CountsOnce (Again again) = (read : List Obstacle) × MakesNone again read × CountCause read again
   CountsOnce Spent = IsSpent

@@ -119,8 +119,8 @@ fn pass_current(table: &QueueTable, pass: &mut QueuePass, head: u64) -> u32
     place_of(table, current)
 }
 
-/// The least free place. There is none where each is the current one, in the chain, has a take that is
-/// not done, or is observed.
+/// A free place: the least, which no clause asks for. There is none where each is the current one, in the
+/// chain, has a take that is not done, or is observed.
 pub(crate) fn find_place(table: &QueueTable, pass: &mut QueuePass, head: u64) -> Option<u32>
     requires of { IsOf table.now pass.old }
     requires free { (pass.old.view.hand ≡ Nothing) × (pass.old.view.window ≡ None) }

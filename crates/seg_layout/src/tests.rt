@@ -20,6 +20,7 @@ fn places_by_room_first_length_and_callers(rt: HostRuntime) {
     assert_eq!(rt; places(4, 2, 1), 4);
     assert_eq!(rt; places(7, 4, 1), 3);
     assert_eq!(rt; places(8, 4, 3), 10);
+    assert_eq!(rt; places(4_096, 32, 8), 1_033);
     assert_eq!(rt; places(65_536, 2, 64), 2_097_217);
     assert_eq!(rt; places(65_536, 1_024, 64), 4_161);
 }

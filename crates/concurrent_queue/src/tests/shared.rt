@@ -55,6 +55,23 @@ fn counts(queue: &ConcurrentQueue, pass: &mut QueuePass) -> QueueOnce<u64>
     queue.count_once(pass)
 }
 
+/// Whether an enqueue of the position's number is done there, in this segment.
+fn is_put(queue: &ConcurrentQueue, pass: &mut QueuePass, position: u64, segment: u64) -> bool
+    requires { IsOf queue.now pass.old }
+    ensures { IsOf queue.now pass.new }
+{
+    let receipt = Receipt::Enqueued { position, segment };
+    enqueues(queue, pass, position) == QueueOnce::Answer(EnqueueReply::Done, receipt)
+}
+
+/// Whether a dequeue finds no item, after this many enqueues and takes.
+fn is_empty(queue: &ConcurrentQueue, pass: &mut QueuePass, count: u64) -> bool
+    requires { IsOf queue.now pass.old }
+    ensures { IsOf queue.now pass.new }
+{
+    dequeues(queue, pass) == QueueOnce::Answer(DequeueReply::Empty, looked(count, count))
+}
+
 /// Why no queue is made, if none is.
 fn refused(rt: &HostRuntime, room: u32, first_len: u32, callers: u32) -> Option<QueueRefused>
     requires { (0 < callers) × (callers ≤ 64) }
@@ -74,6 +91,49 @@ fn parameters_are_refused_in_order(rt: HostRuntime) -> Result<(), Fail> {
     assert_eq!(rt; refused(&rt, 8, 2_048, 1), Some(QueueRefused::BadLength));
     assert_eq!(rt; refused(&rt, 65_536, 2, 64), Some(QueueRefused::TooLarge));
     assert_eq!(rt; refused(&rt, 65_536, 1_024, 1), None);
+    assert_eq!(rt; refused(&rt, 4_096, 32, 8), None);
+    Ok(())
+}
+
+#[test]
+fn each_segment_is_twice_as_long_as_the_one_before(rt: HostRuntime) -> Result<(), Fail> {
+    let Ok((queue, mut pass)) = ConcurrentQueue::new(rt.alloc(), 64, 2, 1) else {
+        assert!(rt; false);
+        return Ok(());
+    };
+    // 2 positions, then 4, then 8
+    assert!(rt; is_put(&queue, &mut pass, 0, 0));
+    assert!(rt; is_put(&queue, &mut pass, 1, 0));
+    assert!(rt; is_put(&queue, &mut pass, 2, 1));
+    assert!(rt; is_put(&queue, &mut pass, 3, 1));
+    assert!(rt; is_put(&queue, &mut pass, 4, 1));
+    assert!(rt; is_put(&queue, &mut pass, 5, 1));
+    assert!(rt; is_put(&queue, &mut pass, 6, 2));
+    assert!(rt; is_put(&queue, &mut pass, 7, 2));
+    assert!(rt; is_put(&queue, &mut pass, 8, 2));
+    Ok(())
+}
+
+#[test]
+fn items_of_two_segments_are_taken_in_order(rt: HostRuntime) -> Result<(), Fail> {
+    let Ok((queue, mut pass)) = ConcurrentQueue::new(rt.alloc(), 8, 2, 1) else {
+        assert!(rt; false);
+        return Ok(());
+    };
+    let queue = &queue;
+    let pass = &mut pass;
+    assert!(rt; is_empty(queue, pass, 0));
+    assert!(rt; enqueues(queue, pass, 1) == QueueOnce::Answer(EnqueueReply::Done, at(0)));
+    assert!(rt; enqueues(queue, pass, 2) == QueueOnce::Answer(EnqueueReply::Done, at(1)));
+    let third = Receipt::Enqueued {
+        position: 2,
+        segment: 1,
+    };
+    assert!(rt; enqueues(queue, pass, 3) == QueueOnce::Answer(EnqueueReply::Done, third));
+    assert!(rt; dequeues(queue, pass) == took(1, 0));
+    assert!(rt; dequeues(queue, pass) == took(2, 1));
+    assert!(rt; dequeues(queue, pass) == took(3, 2));
+    assert!(rt; is_empty(queue, pass, 3));
     Ok(())
 }
 

@@ -15,7 +15,7 @@ pub loop-preserved : goal.loop-preserved
 loop-preserved g c = (
   c.dequeue_once.ensures.idle,
   elim c.match-dequeue_once.branch [
-    | in-Again w ↦ let none = w.in-Again.ensures.told in tries_on c.args.pass.now c.loop.pass c.dequeue_once.new.pass c.loop.invariant.1 none.0 none.1
+    | in-Again w ↦ let none = w.in-Again.ensures.told in tries_on c.args.pass.now c.loop.pass c.dequeue_once.new.pass c.loop.invariant.1 w.in-Again.field-0 none.0 none.1
     | in-Spent w ↦ tries_spent c.args.pass.now c.loop.pass c.dequeue_once.new.pass c.loop.invariant.1 w.in-Spent.ensures.told
   ],
 )
