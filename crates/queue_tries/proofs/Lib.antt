@@ -7,4 +7,5 @@ pub mod Fronting
 pub mod Searching
 pub mod Counting
 pub mod Repeating
+pub mod Snapping
 pub mod Worked

@@ -11,3 +11,5 @@ pub mod Dequeues
 pub mod Counts
 pub mod Lasting
 pub mod Loads
+pub mod Windows
+pub mod Snaps
