@@ -8,4 +8,5 @@ pub mod Searching
 pub mod Counting
 pub mod Repeating
 pub mod Snapping
+pub mod Windowing
 pub mod Worked

@@ -13,3 +13,4 @@ pub mod Lasting
 pub mod Loads
 pub mod Windows
 pub mod Snaps
+pub mod Reading

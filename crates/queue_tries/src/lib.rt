@@ -26,6 +26,7 @@ mod peeks;
 mod scans;
 mod snaps;
 mod tails;
+mod windows;
 
 pub use answers::{DequeueReply, EnqueueReply, Next, QueueAgain, QueueOnce, Window};
 pub use counts::count_once;
