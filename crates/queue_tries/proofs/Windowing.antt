@@ -1,10 +1,13 @@
 -- Looks into a window.
-use Rattle.std.proofs.Common.{◌≡◌, ◌≢◌, ℕ, zero, suc, ◌+◌, ◌-◌, ◌*◌, ◌/◌, ◌%◌, ◌<◌, ◌≤◌, ◌++◌, Bool, true, false, cond, eqb, ltb, leb, ◌&&◌, List, [], ◌∷◌, length, map, drop, slice_get, sym, refl, ap, ◌∙◌, subst, arith, append-nil, eq-eqb, ne_eqb}
-use Rattle.std.proofs.lemmas.Bool.{cases_Bool, le-leb, lt-ltb}
+use Rattle.std.proofs.Common.{◌≡◌, ◌≢◌, ℕ, zero, suc, ◌+◌, ◌-◌, ◌*◌, ◌/◌, ◌%◌, ◌<◌, ◌≤◌, ◌⊎◌, ⊎_elim, ◌++◌, Bool, true, false, cond, eqb, ltb, leb, ◌&&◌, List, [], ◌∷◌, length, map, drop, slice_get, sym, refl, true≢false, ap, ◌∙◌, subst, arith, eq-eqb, ne_eqb}
+use Rattle.std.proofs.lemmas.Bool.{le-leb, lt-ltb, eqb-true, eqb-false}
+use Rattle.std.proofs.lemmas.List.Elements.{Contains-push, Contains-append_right}
+use Rattle.std.proofs.lemmas.List.{length-map}
 use Rattle.std.specs.Prelude.{Option, None, Some, IfSome, Contains}
 use Rattle.ho_base.specs.Marks.{Mark, number_of}
 use Rattle.ho_model.specs.declared.marks.EntryMark.{EntryMark}
-use Rattle.ho_model.specs.Enqueues.{values_of}
+use Rattle.ho_model.specs.Enqueues.{values_of, putters_of}
+use Rattle.passes.specs.Numbers.{HasNumber, HasAll}
 use Rattle.seg_rule.specs.declared.word.QueueWord.{QueueWord}
 use Rattle.seg_rule.specs.declared.word.QueueWord.TheVariants.{Head, Turn, Current, First, Tail, Start, Length, Observers, Done, Next, Segment, Number, Item}
 use Rattle.seg_rule.specs.declared.view.View.{View}
@@ -12,21 +15,23 @@ use Rattle.seg_rule.specs.declared.view.Notes.{Notes}
 use Rattle.seg_rule.specs.declared.view.Scan.{Scan}
 use Rattle.seg_rule.specs.declared.view.Window as view
 use Rattle.seg_rule.specs.declared.view.Obstacle.{Obstacle}
+use Rattle.seg_rule.specs.declared.view.Obstacle.TheVariants.{Unpublished}
 use Rattle.seg_rule.specs.declared.view.Hand.TheVariants.{Nothing}
 use Rattle.seg_rule.specs.declared.view.Stage.{Stage}
 use Rattle.seg_rule.specs.declared.view.Stage.TheVariants.{Away}
-use Rattle.seg_rule.specs.Loads.{begun, told, begins_call, at_first, stage_after, hand_after, has_turn, is_front_slot, is_free_by, is_at_rest, is_inside, obstacles, window_obstacles}
+use Rattle.seg_rule.specs.Loads.{begun, told, begins_call, at_first, stage_after, hand_after, has_turn, is_front_slot, is_free_by, is_at_rest, is_inside, lies_at, met_if, obstacles, window_obstacles}
 use Rattle.seg_rule.specs.Plays.{Reads}
-use Rattle.seg_rule.specs.Tells.{Told, TellsWindow, sees_in_flight, is_idle, places_in, place_count}
+use Rattle.seg_rule.specs.Tells.{Told, TellsWindow, SeesPutter, sees_in_flight, is_idle, places_in, place_count}
 use Rattle.seg_rule.specs.Steps.{blank}
-use Rattle.seg_rule.specs.Snapshots.{MayEnd, window_over, left_from, rest_of, ended, without_first}
-use Rattle.seg_rule.specs.Passes.{QueueShape, QueueView, IsOf}
+use Rattle.seg_rule.specs.Snapshots.{MayEnd, rest_of, ended, without_first}
+use Rattle.seg_rule.specs.Passes.{QueueView}
 use Rattle.queue_tries.specs.Walks.{Keeps}
 use Rattle.queue_tries.specs.Snaps.{beside}
-use Rattle.queue_tries.specs.Windows.{HasOpened, IsWindowOf}
-use Rattle.queue_tries.specs.Reading.{LooksInto, HoldsFrom, LeavesFirst, IsAtPlace, segments_left, Stays, PassesOn}
+use Rattle.queue_tries.specs.Windows.{HasOpened, IsPutByOther, ReadsOn, Gives, items_of, given_of}
+use Rattle.queue_tries.specs.declared.answers.Next.TheVariants as next
+use Rattle.queue_tries.specs.Reading.{LooksInto, HoldsFrom, LeavesFirst, IsAtPlace, LiesAt, IsShown, SeesNumber, ReadsAt, Stays}
 use Rattle.queue_tries.specs.declared.answers.Window.{Window}
-use Rattle.queue_tries.proofs.Walks.{reads_told, no_hand, keeps_on}
+use Rattle.queue_tries.proofs.Walks.{reads_told, no_hand, keeps_none, keeps_on}
 
 -- A load.
 
@@ -79,7 +84,15 @@ looks_into w x v u none hand away r =
       tells = r.window;
       left = left;
       keeps = subst (λ (z : View). Keeps (beside v) (beside z) (window_obstacles w x v.window (obstacles v.stage w x v.notes))) (sym left) record {
-        object = refl; callers = refl; caller = refl; held = refl; seen = refl; made = refl; joint = refl; window = refl; met = refl;
+        object = refl;
+        callers = refl;
+        caller = refl;
+        held = refl;
+        seen = refl;
+        made = refl;
+        joint = refl;
+        window = refl;
+        met = refl;
       };
       hand = ap (λ (z : View). z.hand) left ∙ (ap (hand_after w x) hand ∙ no_hand w x);
       stage = ap (λ (z : View). z.stage) left ∙ (ap (stage_after w x v.notes) away ∙ no_stage w x v.notes);
@@ -166,29 +179,180 @@ module _ (p q : QueueView) (a : Window) (x : ℕ) (h : HasOpened p a) (other : a
   pub holds_ended : HoldsFrom a.first a.last q.view
   holds_ended = record { seen = ended_at; there = end_noted; first_is = h.window.first; last_is = h.window.last; hand = l.hand; stage = l.stage }
 
-  left_up : (e : Option ℕ) (o t : ℕ) (n : ℕ) → e ≡ Some n → n ≤ a.at → o ≤ a.at → left_from e o t ≤ a.at
-  left_up e o t n is low from = subst (λ (z : Option ℕ). left_from z o t ≤ a.at) (sym is) (both (ltb o n))
-    where
-      both : (b : Bool) → cond b n o ≤ a.at
-      both true = low
-      both false = from
+-- What stays.
 
-  -- the first place was let go
-  module _ (r : QueueView) (next : ℕ) (near : next < place_count p.view) (low : x / 2 ≤ a.at) (f : LeavesFirst a.first a.last q.view next r.view) where
-    seen_is : f.seen ≡ ended_at
-    seen_is = ap (λ (z : Option view.Window). seen_or ended_at z) (sym f.there ∙ end_noted)
-      where
-        seen_or : view.Window → Option view.Window → view.Window
-        seen_or d None = d
-        seen_or d (Some o) = o
+pub stays_none : (v : View) → Stays v v
+stays_none v = ([], keeps_none (beside v))
 
-    pub passed_on : PassesOn p a r (record a { first = next }) true
-    passed_on = (
-      goes_opened p r a next (record (window_over (suc f.seen.begin) f.seen.end next f.seen.last) { head = left_from f.seen.ends f.seen.head f.seen.tail; tail = f.seen.tail })
-      (window_obstacles (Tail a.first) x p.view.window (obstacles p.view.stage (Tail a.first) x p.view.notes) ++ []) h (keeps_on (beside p.view) (beside q.view) (beside r.view) _ [] l.keeps f.keeps) f.hand f.stage f.left refl near f.last_is
-      (ap (λ (o : view.Window). o.tail) seen_is ∙ h.window.tail)
-      (left_up f.seen.ends f.seen.head f.seen.tail (x / 2) (ap (λ (o : view.Window). o.ends) seen_is) low (subst (λ (n : ℕ). n ≤ a.at) (sym (ap (λ (o : view.Window). o.head) seen_is)) h.window.from.0)),
-      refl,
-      subst (λ (n : ℕ). n < segments_left p.view.window) (sym (ap segments_left f.left)) (subst (λ (n : ℕ). f.seen.end - suc f.seen.begin < n) (sym (ap segments_left h.window.there_is))
-      (let b : f.seen.begin ≡ h.window.seen.begin = ap (λ (o : view.Window). o.begin) seen_is in let e : f.seen.end ≡ h.window.seen.end = ap (λ (o : view.Window). o.end) seen_is in let m = f.more in omega arith)),
+pub stays_on : (v w u : View) → Stays v w → Stays w u → Stays v u
+stays_on v w u a b = (a.0 ++ b.0, keeps_on (beside v) (beside w) (beside u) a.0 b.0 a.1 b.1)
+
+-- The slot of the next position.
+
+all_true : (a b c d : Bool) → a ≡ true → b ≡ true → c ≡ true → d ≡ true → (a && (b && (c && d))) ≡ true
+all_true a b c d e f g h i = e i && (f i && (g i && h i))
+
+pub lies_measured : (p q : QueueView) (a : Window) (x slot : ℕ) → IsAtPlace p a → a.at < a.tail → LooksInto (Length a.first) x p.view q.view → slot ≡ a.at % x → LiesAt q a slot
+lies_measured p q a x slot t low l is =
+    let h = t.opened in let o : view.Window = record h.window.seen { length = Some x } in record {
+      opened = goes_opened p q a a.first o (window_obstacles (Length a.first) x p.view.window (obstacles p.view.stage (Length a.first) x p.view.notes)) h l.keeps l.hand l.stage
+          (ap (λ (z : View). z.window) l.left ∙ (ap (at_first (λ (z : view.Window). record z { length = Some x }) a.first) h.window.there_is ∙ noted_first (λ (z : view.Window). record z { length = Some x }) h.window.seen a.first h.window.first))
+          h.window.first h.window.inside.0 h.window.last h.window.tail h.window.from.0;
+      lies = all_true (leb h.window.seen.head a.at) (ltb a.at h.window.seen.tail) (eqb (a.at % x) slot) (is_inside (eqb h.window.seen.first h.window.seen.last) h.window.seen.ends a.at)
+          (le-leb h.window.seen.head a.at h.window.from.0) (lt-ltb a.at h.window.seen.tail (subst (λ (n : ℕ). a.at < n) (sym h.window.tail) low)) (eq-eqb (a.at % x) slot (sym is)) t.inside;
+    }
+
+-- Its number.
+
+module _ (p q : QueueView) (a : Window) (slot x : ℕ) (t : LiesAt p a slot) (low : a.at < a.tail) (l : LooksInto (Number a.first slot) x p.view q.view) where
+  abbrev here : HasOpened p a
+  here = t.opened
+
+  abbrev shown_at : view.Window
+  shown_at = record here.window.seen { shown = Some (slot, x) }
+
+  abbrev met : List Obstacle
+  met = obstacles p.view.stage (Number a.first slot) x p.view.notes
+
+  tells : (x ≡ 2 * a.at + 1) ⊎ ((x ≡ 2 * a.at) × SeesPutter p.view a.at)
+  tells = (subst (λ (z : Option view.Window). IfSome z (TellsWindow (Number a.first slot) x p.view)) here.window.there_is l.tells).number slot a.at (ap (λ (n : ℕ). Number n slot) (sym here.window.first)) here.hand t.lies
+
+  abbrev opened_still : HasOpened q a
+  opened_still = goes_opened p q a a.first shown_at (window_obstacles (Number a.first slot) x p.view.window met) here l.keeps l.hand l.stage
+      (ap (λ (z : View). z.window) l.left ∙ (ap (at_first (λ (z : view.Window). record z { shown = Some (slot, x) }) a.first) here.window.there_is ∙ noted_first (λ (z : view.Window). record z { shown = Some (slot, x) }) here.window.seen a.first here.window.first))
+      here.window.first here.window.inside.0 here.window.last here.window.tail here.window.from.0
+
+  met_there : x ≡ 2 * a.at → Contains (window_obstacles (Number a.first slot) x p.view.window met) (Unpublished a.first a.at (2 * a.at))
+  met_there is =
+      let o = here.window.seen in let half : x / 2 ≡ a.at = omega arith in let even : x % 2 ≡ 0 = omega arith in
+      let found : (eqb o.first a.first && (eqb (x % 2) 0 && lies_at o slot (x / 2))) ≡ true = (λ i. eq-eqb o.first a.first here.window.first i && (eq-eqb (x % 2) 0 even i && (ap (lies_at o slot) half ∙ t.lies) i)) in
+      subst (λ (z : Option view.Window). Contains (window_obstacles (Number a.first slot) x z met) (Unpublished a.first a.at (2 * a.at))) (sym here.window.there_is)
+      (Contains-append_right met (met_if (eqb o.first a.first && (eqb (x % 2) 0 && lies_at o slot (x / 2))) (Unpublished a.first (x / 2) x)) (Unpublished a.first a.at (2 * a.at))
+      (subst (λ (z : Bool × (ℕ × ℕ)). Contains (met_if z.0 (Unpublished a.first z.1.0 z.1.1)) (Unpublished a.first a.at (2 * a.at))) (λ i. (sym found i, (sym half i, sym is i))) (Contains-push [] (Unpublished a.first a.at (2 * a.at)))))
+
+  pub sees_number : (b : Bool) → eqb (x % 2) 1 ≡ b → SeesNumber p a slot q b
+  sees_number true odd = (
+    record {
+      opened = opened_still;
+      lies = t.lies;
+      shown = ⊎_elim (λ (is : x ≡ 2 * a.at + 1). ap (λ (n : ℕ). Some (slot, n)) is) (λ (is : (x ≡ 2 * a.at) × SeesPutter p.view a.at). absurd (let one = eqb-true (x % 2) 1 odd in let e = is.0 in omega arith)) tells;
+    },
+    (window_obstacles (Number a.first slot) x p.view.window met, l.keeps),
+  )
+  sees_number false even =
+      let free : (x ≡ 2 * a.at) × SeesPutter p.view a.at = ⊎_elim (λ (is : x ≡ 2 * a.at + 1). absurd (let none = eqb-false (x % 2) 1 even in none (let one : x % 2 ≡ 1 = omega arith in one))) (λ (is : (x ≡ 2 * a.at) × SeesPutter p.view a.at). is) tells in
+      let s = free.1 in (
+        opened_still,
+        (window_obstacles (Number a.first slot) x p.view.window met, l.keeps, met_there free.0, record { putter = s.putter; enqueued = s.enqueued (subst (λ (n : ℕ). a.at < n) (sym here.window.all) low); not_held = s.not_held; not_whole = s.not_whole }),
+      )
+
+-- And its item.
+pub item_read : (p q : QueueView) (a : Window) (slot x : ℕ) → IsShown p a slot → a.at < a.tail → LooksInto (Item a.first slot) x p.view q.view → ReadsAt p a q (Some x)
+item_read p q a slot x t low l =
+    let h = t.opened in let read = window_obstacles (Item a.first slot) x p.view.window (obstacles p.view.stage (Item a.first slot) x p.view.notes) in (
+      goes_opened p q a a.first h.window.seen read h l.keeps l.hand l.stage (ap (λ (z : View). z.window) l.left ∙ h.window.there_is) h.window.first h.window.inside.0 h.window.last h.window.tail h.window.from.0,
+      (read, l.keeps),
+      (subst (λ (z : Option view.Window). IfSome z (TellsWindow (Item a.first slot) x p.view)) h.window.there_is l.tells).item slot a.at (ap (λ (n : ℕ). Item n slot) (sym h.window.first)) t.lies t.shown (subst (λ (n : ℕ). a.at < n) (sym h.window.all) low),
     )
+
+-- A look as a whole.
+
+put_before : (v w : View) (read : List Obstacle) (position : ℕ) → Keeps (beside v) (beside w) read → IsPutByOther w position → IsPutByOther v position
+put_before v w read position k o = record {
+  putter = o.putter;
+  enqueued = ap (λ (l : List EntryMark). slice_get (putters_of l) position) (sym k.seen) ∙ o.enqueued;
+  not_held = subst (λ (held : List Bool). ¬ HasNumber held o.putter) k.held o.not_held;
+  not_whole = subst (λ (z : ℕ × List Bool). ¬ HasAll z.0 z.1) (λ i. (k.callers i, k.held i)) o.not_whole;
+}
+
+pub reads_before : (p q r : QueueView) (a : Window) (item : Option ℕ) → Stays p.view q.view → ReadsAt q a r item → ReadsAt p a r item
+reads_before p q r a (Some item) s m = (m.0, stays_on p.view q.view r.view s m.1, ap (λ (l : List EntryMark). slice_get (values_of l) a.at) (sym s.1.seen) ∙ m.2)
+reads_before p q r a None s m = let n = m.1 in (
+  m.0,
+  (
+    s.0 ++ n.0,
+    keeps_on (beside p.view) (beside q.view) (beside r.view) s.0 n.0 s.1 n.1,
+    Contains-append_right s.0 n.0 (Unpublished a.first a.at (2 * a.at)) n.2,
+    put_before p.view q.view s.0 a.at s.1 n.3,
+  ),
+)
+
+-- What a look at the next item comes to.
+
+length_left : (h : ℕ) (l : List Mark) → length (map number_of (drop h l)) ≡ length l - h
+length_left zero l = length-map l number_of ∙ (omega arith)
+length_left (suc h) [] = omega arith
+length_left (suc h) (x ∷ l) = length_left h l ∙ (omega arith)
+
+abbrev is_none : Option Mark → Bool
+is_none None = true
+is_none (Some z) = false
+
+no_item : (n y : ℕ) → slice_get [] n ≡ Some (y ∷ []) → ⊥
+no_item n y is = true≢false (ap is_none is)
+
+at_first_left : (n : ℕ) (l : List Mark) (y : ℕ) → slice_get l n ≡ Some (y ∷ []) → slice_get (map number_of l) n ≡ Some y
+at_first_left n [] y is = absurd (no_item n y is)
+at_first_left zero (x ∷ l) y is = ap (λ (o : Option Mark). number_in o) is
+  where
+    number_in : Option Mark → Option ℕ
+    number_in None = None
+    number_in (Some z) = Some (number_of z)
+at_first_left (suc n) (x ∷ l) y is = at_first_left n l y is
+
+at_left : (h n : ℕ) (l : List Mark) (y : ℕ) → slice_get l (h + n) ≡ Some (y ∷ []) → slice_get (map number_of (drop h l)) n ≡ Some y
+at_left zero n l y is = at_first_left n l y (subst (λ (k : ℕ). slice_get l k ≡ Some (y ∷ [])) (let e : 0 + n ≡ n = omega arith in e) is)
+at_left (suc h) n [] y is = absurd (no_item (suc h + n) y is)
+at_left (suc h) n (x ∷ l) y is = at_left h n l y (subst (λ (k : ℕ). slice_get (x ∷ l) k ≡ Some (y ∷ [])) (let e : suc h + n ≡ suc (h + n) = omega arith in e) is)
+
+reads_on : (p q : QueueView) (read : List Obstacle) → q.table ≡ p.table → Keeps (beside p.view) (beside q.view) read → ReadsOn p q read
+reads_on p q read same k i = record { table = same i; object = k.object i; callers = k.callers i; caller = k.caller i; held = k.held i; made = k.made i; seen = k.seen i; met = k.met i }
+
+same_items : (p q : QueueView) (a b : Window) (read : List Obstacle) → Keeps (beside p.view) (beside q.view) read → b.head ≡ a.head → items_of q.view.seen b ≡ items_of p.view.seen a
+same_items p q a b read k same i = map number_of (drop (same i) (values_of (k.seen i)))
+
+-- none is left
+pub gives_end : (p : QueueView) (a : Window) → HasOpened p a → a.at ≡ a.tail → Gives p a p a next.End
+gives_end p a h e = (refl, refl, (let n = length_left a.head (values_of p.view.seen) in let all = h.window.all in omega arith))
+
+-- the items that are left, where the next position is below the tail
+some_left : (p : QueueView) (a : Window) → HasOpened p a → a.at < a.tail → given_of a < length (items_of p.view.seen a)
+some_left p a h low = let n = length_left a.head (values_of p.view.seen) in let all = h.window.all in let from = h.window.from.1 in omega arith
+
+module _ (p q r : QueueView) (a b : Window) (h : HasOpened p a) (low : a.at < a.tail) (same : r.table ≡ p.table) (kept : b ≡ record a { first = b.first }) (s : Stays p.view q.view) where
+  pub gives_none : ReadsAt q b r None → Gives p a r b next.InFlight
+  gives_none m = let n = reads_before p q r b None s m in let k = n.1 in (
+    k.0,
+    reads_on p r k.0 same k.1,
+    (same_items p r a b k.0 k.1 (ap (λ (z : Window). z.head) kept), (let head : b.head ≡ a.head = ap (λ (z : Window). z.head) kept in let at : b.at ≡ a.at = ap (λ (z : Window). z.at) kept in omega arith)),
+    some_left p a h low,
+    (b.first, subst (λ (n : ℕ). Contains k.0 (Unpublished b.first n (2 * n))) (ap (λ (z : Window). z.at) kept) k.2),
+    subst (IsPutByOther p.view) (ap (λ (z : Window). z.at) kept) k.3,
+  )
+
+  pub gives_item : (y more_at : ℕ) → more_at ≡ a.at + 1 → ReadsAt q b r (Some y) → Gives p a r (record b { at = more_at }) (next.Item y)
+  gives_item y more_at more m = let n = reads_before p q r b (Some y) s m in let k = n.1 in let c : Window = record b { at = more_at } in (
+    k.0,
+    reads_on p r k.0 same k.1,
+    (same_items p r a c k.0 k.1 (ap (λ (z : Window). z.head) kept), (let head : b.head ≡ a.head = ap (λ (z : Window). z.head) kept in let from = h.window.from.1 in omega arith)),
+    at_left a.head (a.at - a.head) (values_of p.view.seen) y (subst (λ (z : ℕ). slice_get (values_of p.view.seen) z ≡ Some (y ∷ [])) (let at : b.at ≡ a.at = ap (λ (z : Window). z.at) kept in let from = h.window.from.1 in (let e : b.at ≡ a.head + (a.at - a.head) = omega arith in e)) n.2),
+  )
+
+-- one more was given
+pub goes_on_opened : (p : QueueView) (a : Window) (next : ℕ) → HasOpened p a → a.at < a.tail → next ≡ a.at + 1 → HasOpened p (record a { at = next })
+goes_on_opened p a next h low more = record {
+  window = record {
+    seen = h.window.seen;
+    there_is = h.window.there_is;
+    first = h.window.first;
+    last = h.window.last;
+    tail = h.window.tail;
+    inside = h.window.inside;
+    from = (let x = h.window.from in let y = x.0 in omega arith, let x = h.window.from in let y = x.1 in omega arith);
+    until = (omega arith);
+    all = h.window.all;
+  };
+  hand = h.hand;
+  stage = h.stage;
+  joint = h.joint;
+}

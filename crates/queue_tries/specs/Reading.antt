@@ -1,5 +1,5 @@
 -- The parts of a look into a window: v is the view before, and w after.
-use Rattle.std.specs.Prelude.{◌≡◌, ◌≢◌, ℕ, suc, ◌+◌, ◌-◌, ◌*◌, ◌<◌, ◌++◌, Bool, true, false, List, [], ◌∷◌, slice_get, eqb, Option, None, Some, IfSome, Contains}
+use Rattle.std.specs.Prelude.{◌≡◌, ℕ, suc, ◌+◌, ◌-◌, ◌*◌, ◌<◌, Bool, true, false, List, [], ◌∷◌, slice_get, eqb, Option, None, Some, IfSome, Contains}
 use Rattle.ho_model.specs.Enqueues.{values_of}
 use Rattle.seg_rule.specs.declared.word.QueueWord.{QueueWord}
 use Rattle.seg_rule.specs.declared.view.View.{View}

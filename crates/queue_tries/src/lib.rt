@@ -35,6 +35,7 @@ pub use enqueues::enqueue_once;
 pub use lasting::{count, dequeue, enqueue, peek};
 pub use peeks::peek_once;
 pub use snaps::window_once;
+pub use windows::{window_end, window_next};
 
 #[cfg(test)]
 mod tests;
