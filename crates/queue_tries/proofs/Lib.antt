@@ -7,4 +7,6 @@ pub mod Fronting
 pub mod Searching
 pub mod Counting
 pub mod Repeating
+pub mod Snapping
+pub mod Windowing
 pub mod Worked

@@ -163,7 +163,7 @@ module _ (w : QueueWord) (x : ℕ) (v : View) (none : v.window ≡ None) where
   pub alone : told w x v ≡ told_alone w x v
   alone = (λ i. record (told_alone w x v) { met = v.met ++ met_same (obstacles v.stage w x v.notes) i; window = window_same i })
 
-no_hand : (w : QueueWord) (x : ℕ) → hand_after w x Nothing ≡ Nothing
+pub no_hand : (w : QueueWord) (x : ℕ) → hand_after w x Nothing ≡ Nothing
 no_hand Head x = refl
 no_hand Turn x = refl
 no_hand Current x = refl

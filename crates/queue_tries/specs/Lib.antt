@@ -11,3 +11,6 @@ pub mod Dequeues
 pub mod Counts
 pub mod Lasting
 pub mod Loads
+pub mod Windows
+pub mod Snaps
+pub mod Reading

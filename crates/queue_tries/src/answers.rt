@@ -42,3 +42,27 @@ pub enum QueueOnce<R> {
     /// The caller has made as many calls as it may: 2^48. The try made no step.
     Spent,
 }
+
+/// What a look at the next item of a window comes to.
+#[derive(Clone, Copy, Debug, PartialEq, Eq)]
+pub enum Next {
+    Item(u64),
+    /// No item is left.
+    End,
+    /// The next item was enqueued by another caller, which has not put it into its slot yet.
+    InFlight,
+}
+
+/// A snapshot whose items its pass reads one by one.
+///
+/// Contracts see of it the list of its items and how many of them were given (`specs/Windows.antt`). It holds
+/// the places in which they lie, so it can't be dropped: it is ended.
+pub struct Window {
+    /// The first place that it holds, and the last.
+    pub(crate) first: u32,
+    pub(crate) last: u32,
+    /// Its positions are those from `head` up to `tail`, and `at` is the next one.
+    pub(crate) head: u64,
+    pub(crate) tail: u64,
+    pub(crate) at: u64,
+}

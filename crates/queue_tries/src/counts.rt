@@ -13,7 +13,7 @@ use ho_base::Receipt;
 use seg_rule::{Entering, QueuePass, QueueTable, QueueWord};
 
 /// Begins a call by a load of the current place.
-fn begin(table: &QueueTable, pass: &mut QueuePass)
+pub(crate) fn begin(table: &QueueTable, pass: &mut QueuePass)
     requires idle { IsIdle table.now pass.old }
     ensures same { pass.new.table ≡ pass.old.table }
     ensures walks { WalksFree pass.old.view pass.new.view [] }
@@ -22,7 +22,7 @@ fn begin(table: &QueueTable, pass: &mut QueuePass)
 }
 
 /// Reads the current place under the turn.
-fn current_place(table: &QueueTable, pass: &mut QueuePass) -> u32
+pub(crate) fn current_place(table: &QueueTable, pass: &mut QueuePass) -> u32
     requires of { IsOf table.now pass.old }
     requires paid { IsPaid pass.old.view }
     requires plain { pass.old.view.stage ≡ Plain }
@@ -35,7 +35,7 @@ fn current_place(table: &QueueTable, pass: &mut QueuePass) -> u32
 }
 
 /// Reads the tail of the current place under the turn, which is open.
-fn current_tail(table: &QueueTable, pass: &mut QueuePass, place: u32) -> u64
+pub(crate) fn current_tail(table: &QueueTable, pass: &mut QueuePass, place: u32) -> u64
     requires of { IsOf table.now pass.old }
     requires paid { IsPaid pass.old.view }
     requires plain { pass.old.view.stage ≡ Plain }
@@ -48,7 +48,7 @@ fn current_tail(table: &QueueTable, pass: &mut QueuePass, place: u32) -> u64
 }
 
 /// Closes the tail that was read, unless it has moved on.
-fn close(table: &QueueTable, pass: &mut QueuePass, place: u32, at: u64) -> bool
+pub(crate) fn close(table: &QueueTable, pass: &mut QueuePass, place: u32, at: u64) -> bool
     requires of { IsOf table.now pass.old }
     requires inside { place < table.now.form.places }
     requires may { MayClose pass.old.view place at }

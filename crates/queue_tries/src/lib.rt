@@ -24,14 +24,18 @@ mod lasting;
 mod loads;
 mod peeks;
 mod scans;
+mod snaps;
 mod tails;
+mod windows;
 
-pub use answers::{DequeueReply, EnqueueReply, QueueAgain, QueueOnce};
+pub use answers::{DequeueReply, EnqueueReply, Next, QueueAgain, QueueOnce, Window};
 pub use counts::count_once;
 pub use dequeues::dequeue_once;
 pub use enqueues::enqueue_once;
 pub use lasting::{count, dequeue, enqueue, peek};
 pub use peeks::peek_once;
+pub use snaps::window_once;
+pub use windows::{window_end, window_next};
 
 #[cfg(test)]
 mod tests;

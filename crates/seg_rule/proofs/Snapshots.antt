@@ -5,6 +5,7 @@ use mathlib.Core.Option.{some}
 use lib.ListN.{get_elem?}
 use Rattle.std.specs.Prelude.{Option, Some, None, IfSome}
 use Rattle.ho_base.specs.Marks.{Mark}
+use Rattle.passes.specs.Numbers.{HasNumber}
 use Rattle.ho_model.specs.Enqueues.{values_of, putters_of}
 use Rattle.ho_model.proofs.Enqueues.{values_of-append, putters_of-append, putters_count}
 use Rattle.seg_rule.specs.declared.form.Form.{Form}
@@ -12,14 +13,15 @@ use Rattle.seg_rule.specs.declared.word.QueueWord.{QueueWord}
 use Rattle.seg_rule.specs.declared.word.QueueWord.TheVariants.{Tail, Length, Next, Number, Item}
 use Rattle.seg_rule.specs.declared.view.View.{View}
 use Rattle.seg_rule.specs.declared.view.Window.{Window}
+use Rattle.seg_rule.specs.declared.view.Stage.TheVariants.{Observing}
 use Rattle.seg_rule.specs.Words.{Memory}
 use Rattle.seg_rule.specs.Chain.{ChainOk, end_of}
 use Rattle.seg_rule.specs.Slots.{SlotOk}
-use Rattle.seg_rule.specs.Rule.{Ghosts, ViewOk, WindowOk, WindowFact, ShownAt, tail_word, Kept}
+use Rattle.seg_rule.specs.Rule.{Ghosts, ViewOk, WindowOk, WindowFact, StageOk, ShownAt, tail_word, Kept}
 use Rattle.seg_rule.specs.Loads.{is_slot_by, is_inside, lies_at}
 use Rattle.seg_rule.specs.Tells.{SeesItem, TellsWindow}
 use Rattle.seg_rule.proofs.Spans.{range_is, range_told}
-use Rattle.seg_rule.proofs.Chains.{rises}
+use Rattle.seg_rule.proofs.Chains.{rises, numbers_low}
 use Rattle.seg_rule.proofs.Slots.{published_is, slot_tells}
 use Rattle.seg_rule.proofs.Object.{got_before}
 use Rattle.seg_rule.proofs.Causes.{in_flight}
@@ -146,6 +148,13 @@ module _ (f : Form) (m : Memory) (views : List View) (id : ℕ) (v : View) (k : 
   putters_seen a c e l = let b = ok.holds.behind in let same = putters_count v.seen in
       got_before (putters_of v.seen) (putters_of b.0) a c (omega arith) (ap (λ (z : List ℕ). get_elem? z a) (sym (putters_of-append v.seen b.0) ∙ (ap putters_of (sym b.1) ∙ k.words.counts.stands.2)) ∙ e)
 
+  -- while places are observed, segments that others follow are numbered below the tail
+  observed_below : (q t b n p : ℕ) → v.stage ≡ Observing q t b n p → p ≢ q → n < t
+  observed_below q t b n p is other =
+      let st : StageOk g id (HasNumber v.held v.caller) v.caller (Observing q t b n p) = subst (StageOk g id (HasNumber v.held v.caller) v.caller) is ok.stage in
+      let low = numbers_low g.segs g.low g.last g.taken g.put k.words.chain g.last (le_refl _) in let ends = k.words.chain.ends in let at_tail = st.4 in let top = st.8 in
+      let apart : n ≢ g.last = (λ e. other (sym st.9 ∙ (ap (λ z. (g.segs z).place) e ∙ st.5))) in omega arith
+
   -- what a load of the first place tells
   pub tells_window : (w : QueueWord) (y : ℕ) → m w ≡ y → (o : Window) → v.window ≡ Some o → TellsWindow w y v o
   tells_window w y now o is = let x : WindowOk g o = subst (WindowFact g) is ok.window in record {
@@ -165,4 +174,5 @@ module _ (f : Form) (m : Memory) (views : List View) (id : ℕ) (v : View) (k : 
         (λ (free : m (Number ((g.segs n).place) i) ≡ 2 * a). absurd (let shows = slot.shows in let cell = told.0 in let one = told.1 in omega arith))
         (λ (there : (m (Number ((g.segs n).place) i) ≡ 2 * a + 1) × (get_elem? g.values a ≡ some (m (Item ((g.segs n).place) i) ∷ []))). subst (λ z. get_elem? g.values a ≡ some (z ∷ [])) item there.1)
         (slot_tells (g.segs n).len g.values g.taken (g.segs n).start (end_of g.segs g.last g.put n) (m (Number ((g.segs n).place) i)) (m (Item ((g.segs n).place) i)) i a (g.cells ((g.segs n).place) i) slot s.2.3 s.2.2));
+    below = observed_below;
   }

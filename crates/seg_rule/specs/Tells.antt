@@ -10,7 +10,7 @@ use Rattle.seg_rule.specs.declared.word.QueueWord.{QueueWord}
 use Rattle.seg_rule.specs.declared.word.QueueWord.TheVariants.{Head, Current, First, Tail, Length, Next, Segment, Number, Item}
 use Rattle.seg_rule.specs.declared.view.View.{View}
 use Rattle.seg_rule.specs.declared.view.Window.{Window}
-use Rattle.seg_rule.specs.declared.view.Stage.TheVariants.{Plain}
+use Rattle.seg_rule.specs.declared.view.Stage.TheVariants.{Plain, Observing}
 use Rattle.seg_rule.specs.declared.view.Hand.{Hand}
 use Rattle.seg_rule.specs.declared.view.Hand.TheVariants.{Nothing, Reserved, Stored}
 use Rattle.ho_model.specs.declared.objects.Object.{Object}
@@ -105,12 +105,13 @@ pub record SeesPutter (v : View) (a : ℕ) : Type 0 where
   pub not_held : ¬ HasNumber v.held putter
   pub not_whole : ¬ IsWhole v
 
--- What a load that reads x tells a pass of its window o, by what was read of the first place. Where that is not the last one its tail is closed, and segments follow. The slot of a position that lies in it shows the published number, or else the free one, while another caller is about to publish it. The item beside the published number is the one that was seen.
+-- What a load that reads x tells a pass of its window o, by what was read of the first place. Where that is not the last one its tail is closed, and segments follow. The slot of a position that lies in it shows the published number, or else the free one, while another caller is about to publish it. The item beside the published number is the one that was seen. While places are observed, a segment that others follow has a number below the closed tail.
 pub record TellsWindow (w : QueueWord) (x : ℕ) (v : View) (o : Window) : Type 0 where
   pub closed : w ≡ Tail o.first → o.first ≢ o.last → x % 2 ≡ 1
   pub more : w ≡ Next o.first → o.first ≢ o.last → suc o.begin < o.end
   pub number : (i a : ℕ) → w ≡ Number o.first i → v.hand ≡ Nothing → lies_at o i a ≡ true → (x ≡ 2 * a + 1) ⊎ ((x ≡ 2 * a) × SeesPutter v a)
   pub item : (i a : ℕ) → w ≡ Item o.first i → lies_at o i a ≡ true → o.shown ≡ Some (i, 2 * a + 1) → SeesItem v a x
+  pub below : (q t b n p : ℕ) → v.stage ≡ Observing q t b n p → p ≢ q → n < t
 
 -- A load leaves this view. Where it sees the position at the head in flight, the pass sees the whole history by it.
 abbrev pub Sees : Bool → View → View → Type 0
