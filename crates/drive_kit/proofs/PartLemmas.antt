@@ -58,6 +58,9 @@ own_entry held seen before later e has s =
     own_test = ap (λ (b : Bool). cond b (let own : OwnEntry = record { before = before; entry = e } in own ∷ []) []) (eq-eqb e.caller e.caller refl)
 
 -- 2. The calls that made them
+abbrev pub mark_of_made : Object → ℕ → Made → EntryMark
+mark_of_made o c m = entry_of o (entry_told (record { caller = c; made = m }))
+
 module _ (Tells : List EntryMark → EntryMark → Receipt → Type 0) (o : Object) where
   pub made_more : (c : ℕ) (xs : List OwnEntry) (x : OwnEntry) (ms : List Made) (m : Made) → AreMade Tells o c xs ms → IsMade Tells o c x m → AreMade Tells o c (xs ++ x ∷ []) (ms ++ m ∷ [])
   made_more c [] x [] m h is = (is, tt)
@@ -65,17 +68,14 @@ module _ (Tells : List EntryMark → EntryMark → Receipt → Type 0) (o : Obje
   made_more c (y ∷ xs) x [] m h is = absurd h
   made_more c (y ∷ xs) x (n ∷ ms) m h is = (h.0, made_more c xs x ms m h.1 is)
 
-  abbrev pub mark_of_made : ℕ → Made → EntryMark
-  mark_of_made c m = entry_of o (entry_told (record { caller = c; made = m }))
-
-  made_marks : (c : ℕ) (xs : List OwnEntry) (ms : List Made) → AreMade Tells o c xs ms → map (λ (x : OwnEntry). x.entry) xs ≡ map (mark_of_made c) ms
+  made_marks : (c : ℕ) (xs : List OwnEntry) (ms : List Made) → AreMade Tells o c xs ms → map (λ (x : OwnEntry). x.entry) xs ≡ map (mark_of_made o c) ms
   made_marks c [] [] h = refl
   made_marks c [] (m ∷ ms) h = absurd h
   made_marks c (x ∷ xs) [] h = absurd h
   made_marks c (x ∷ xs) (m ∷ ms) h = let rest = made_marks c xs ms h.1 in λ i. h.0.0 i ∷ rest i
 
   -- they are the caller's part of what was seen
-  pub made_part : (c : ℕ) (seen : List EntryMark) (ms : List Made) → AreMade Tells o c (own_entries c [] seen) ms → part c seen ≡ map (mark_of_made c) ms
+  pub made_part : (c : ℕ) (seen : List EntryMark) (ms : List Made) → AreMade Tells o c (own_entries c [] seen) ms → part c seen ≡ map (mark_of_made o c) ms
   made_part c seen ms h = sym (own_part c [] seen) ∙ made_marks c (own_entries c [] seen) ms h
 
   pub none_made : (c : ℕ) (xs : List OwnEntry) (ms : List Made) → xs ≡ [] → AreMade Tells o c xs ms → ms ≡ []
@@ -107,7 +107,7 @@ module _ (Tells : List EntryMark → EntryMark → Receipt → Type 0) (o : Obje
   first_made c x xs [] h = absurd h
   first_made c x xs (m ∷ ms) h = record { first = m; later = ms; is = refl; made = h.0; rest = h.1 }
 
-  module _ (before : List EntryMark) (e : EntryMark) (es : List EntryMark) (made : ℕ → List Made) (m : Made) (ms : List Made) (first : made e.caller ≡ m ∷ ms) (is_made : e ≡ mark_of_made e.caller m) (tells : Tells before e m.receipt) where
+  module _ (before : List EntryMark) (e : EntryMark) (es : List EntryMark) (made : ℕ → List Made) (m : Made) (ms : List Made) (first : made e.caller ≡ m ∷ ms) (is_made : e ≡ mark_of_made o e.caller m) (tells : Tells before e m.receipt) where
     abbrev later_made : ℕ → List Made
     later_made d = cond (eqb e.caller d) ms (made d)
 

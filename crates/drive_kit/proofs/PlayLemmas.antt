@@ -1,5 +1,5 @@
 -- Rows played, and what workers leave taken in.
-use Rattle.std.proofs.Common.{◌≡◌, ◌≢◌, ◌<◌, ◌+◌, ◌++◌, ◌∙◌, ℕ, zero, suc, List, [], ◌∷◌, length, take, drop, map, get_or, slice_get, eqb, All, Bool, true, false, Result, Ok, Err, IfOk, Some, Vec, Global, refl, sym, ap, subst, arith, append-nil, append_assoc}
+use Rattle.std.proofs.Common.{◌≡◌, ◌≢◌, ◌<◌, ◌+◌, ◌++◌, ◌∙◌, ℕ, zero, suc, List, [], ◌∷◌, length, take, drop, map, get_or, slice_get, eqb, All, Bool, true, false, true≢false, Result, Ok, Err, IsErr, IfOk, Some, Vec, Global, refl, sym, ap, subst, arith, append-nil, append_assoc}
 use mathlib.Core.Logic.{dite}
 use native.Mathlib.Decide.{ℕ_discrete}
 use Rattle.std.proofs.lemmas.Bool.Decides.{nat_tests}
@@ -25,7 +25,7 @@ use Rattle.weave.specs.Parts.{PartMade}
 use Rattle.drive_kit.specs.Calls.{IsCallOf, kind_of}
 use Rattle.drive_kit.specs.Parts.{AreHeld, AreMade, IsMade, Lacks, OwnEntry, made_in, own_entries}
 use Rattle.drive_kit.specs.Plans.{IsRowOf, calls_by}
-use Rattle.drive_kit.specs.Playing.{AddsMade, BeginCalls, HasBegun, HasMade, HasPlayed, HoldsOne, IsAlone, IsAppended, IsOf, IsPlayed, IsReceiptOn, MayPlay, PlaysRows, calls_seen, pass_of}
+use Rattle.drive_kit.specs.Playing.{AddsMade, BeginCalls, HasBegun, HasMade, HasPlayed, HoldsOne, IsAlone, IsAppended, IsOf, IsPlayed, IsReceiptOn, MayPlay, PlaysRow, PlaysRows, calls_seen, pass_of}
 use Rattle.drive_kit.specs.declared.callers.Played.{Played}
 use Rattle.drive_kit.specs.declared.scripts.ScriptRow.{ScriptRow}
 use Rattle.drive_kit.specs.declared.stands.DrivenPass.{DrivenPass}
@@ -60,8 +60,8 @@ pub calls_seen_made : (on : Stand) (o : Object) (c : ℕ) (seen : List EntryMark
     → calls_seen c seen ≡ map call_of calls
 calls_seen_made on o c seen ms calls h is = ap (map (λ (x : EntryMark). x.call)) (made_part (IsReceiptOn on) o c seen ms h) ∙ (calls_of_marks o c ms ∙ ap (map call_of) is)
 
-pub none_made_yet : (on : Stand) (p : LockPass) (own : PartMade) → p.seen ≡ [] → own ≡ record { caller = p.caller; made = [] } → HasMade on [] p own
-none_made_yet on p own fresh is = subst (HasMade on [] p) (sym is) (record {
+pub none_made_yet : (on : Stand) (p : LockPass) (own : PartMade) {caller : ℕ} → p.seen ≡ [] → own ≡ record { caller = caller; made = [] } → caller ≡ p.caller → HasMade on [] p own
+none_made_yet on p own fresh is mine = subst (HasMade on [] p) (sym (is ∙ (λ i. record { caller = mine i; made = [] }))) (record {
   lawful = subst (λ (l : List EntryMark). IsLawful number_priority p.object p.callers l) (sym fresh) ((empty_state p.object, refl), tt);
   caller = refl;
   calls = refl;
@@ -157,6 +157,11 @@ pub rows_begun : (rows : List ScriptRow) (i : ℕ) (row : ScriptRow) (p : LockPa
 rows_begun rows i row p lt is h =
     subst (λ (l : List ScriptRow). HasBegun l p) (take-append-drop (i + 1) rows)
     (begun_more (take (i + 1) rows) (drop (i + 1) rows) p (subst (λ (l : List ScriptRow). HasBegun l p) (sym (rows_first rows i row lt is)) h))
+
+-- a row for which no memory was found ends the rows
+pub row_begun : (on : Stand) (rows : List ScriptRow) (i : ℕ) (row : ScriptRow) (p q : LockPass) (own more : PartMade) (want : NoMemory) → i < length rows → row ≡ get_or rows i row
+    → (r : Result Unit NoMemory) → r ≡ Err want → PlaysRow on row p own q more r → HasMade on (take i rows) p own → HasBegun rows q
+row_begun on rows i row p q own more want lt is r err plays h = rows_begun rows i row q lt is (subst (PlaysRow on row p own q more) err plays (take i rows) h)
 
 -- the row's call is one that the pass's object has
 pub row_call : (rows : List ScriptRow) (i : ℕ) (row : ScriptRow) (p q : LockPass) → IsSamePass p q → All (IsRowOf (kind_of p.object)) rows → i < length rows → row ≡ get_or rows i row → IsCallOf (kind_of q.object) row.call
@@ -318,6 +323,15 @@ all_played on rows p p' q s inside first rest all h k of joins appended =
       begun = begun_by_both rows (pass_of rest.pass) (pass_of first.pass) (pass_of all.pass) joins (first_object ∙ sym rest_object) k.begun h.begun;
       made = gathered on rows (pass_of rest.pass) (pass_of first.pass) (pass_of all.pass) joins (first_object ∙ sym rest_object) rest.made first.made all.made appended k.made h.made;
     }
+
+-- a row, or all rows, for which no memory was found
+pub row_unpaid : (on : Stand) (row : ScriptRow) (p : LockPass) (own : PartMade) (q : LockPass) (more : PartMade) (r : Result Unit NoMemory) → IsErr r → ((rows : List ScriptRow) → HasMade on rows p own → HasBegun (rows ++ row ∷ []) q) → PlaysRow on row p own q more r
+row_unpaid on row p own q more (Ok done) is begun = absurd (true≢false (sym is))
+row_unpaid on row p own q more (Err want) is begun = begun
+
+pub rows_unpaid : (on : Stand) (rows : List ScriptRow) (p : LockPass) (r : Result PartMade NoMemory) → IsErr r → HasBegun rows p → PlaysRows on rows p r
+rows_unpaid on rows p (Ok own) is begun = absurd (true≢false (sym is))
+rows_unpaid on rows p (Err want) is begun = begun
 
 -- what a worker leaves
 pub own_played : (on : Stand) (rows : List ScriptRow) (p : LockPass) (played : Played) (own : Result PartMade NoMemory) → HasNumber p.held p.caller → HoldsOne p → IsOf on played.pass → IsSamePass p (pass_of played.pass)
