@@ -1,5 +1,5 @@
 -- What was played, woven into a history.
-use Rattle.std.proofs.Common.{◌≡◌, ◌<◌, ◌≤◌, ◌+◌, ◌++◌, ◌∙◌, ℕ, suc, List, [], ◌∷◌, map, max, fold, get_or, eqb, All, Bool, true, false, true≢false, ltb, ◌==◌, inl, inr, refl, sym, ap, subst, arith}
+use Rattle.std.proofs.Common.{◌≡◌, ◌<◌, ◌≤◌, ◌+◌, ◌++◌, ◌∙◌, ℕ, suc, List, [], ◌∷◌, map, max, fold, get_or, eqb, All, Bool, false, true≢false, ltb, ◌==◌, inl, inr, refl, sym, ap, subst, arith}
 use Rattle.std.proofs.lemmas.Bool.{cases_Bool}
 use Rattle.std.proofs.lemmas.Bool.Decides.{nat_tests}
 use Rattle.ho_base.specs.Marks.{number_priority}
@@ -91,7 +91,7 @@ module _ (on : Stand) (plan : Plan) (p : LockPass) (parts : List PartMade) (play
     | inr not ↦ (
         let past : p.callers ≤ c = grind (arith, nat_tests) in
         subst (λ (z : List OwnEntry × List Made). AreMade (IsReceiptOn on) p.object c z.0 z.1) (λ i. (sym (none_seen c [] p.seen past played.lawful.1) i, sym (none_past_all c past) i)) tt
-      )
+        )
   ]
 
   -- the calls that were seen, each with its receipt
@@ -105,7 +105,7 @@ module _ (on : Stand) (plan : Plan) (p : LockPass) (parts : List PartMade) (play
     | inr not ↦ (
         let past : p.callers ≤ c = grind (arith, nat_tests) in
         ap (map (λ (m : Made). m.call)) (none_past_all c past) ∙ sym (none_past 1 c plan.rows (subst (λ (n : ℕ). n ≤ c) count past))
-      )
+        )
   ])
 
 -- 4. The whole of a script

@@ -1,5 +1,5 @@
 -- Entries that were seen, the parts that callers made of them, and a history made of the parts.
-use Rattle.std.proofs.Common.{◌≡◌, ◌≢◌, ◌⊎◌, inl, inr, ◌<◌, ◌+◌, ◌++◌, ◌∙◌, ℕ, zero, suc, List, [], ◌∷◌, length, map, get_or, slice_get, eqb, cond, Bool, true, false, true≢false, Some, refl, sym, ap, subst, arith, append_assoc, append-nil, length-append, eq-eqb, ne_eqb}
+use Rattle.std.proofs.Common.{◌≡◌, ◌≢◌, ◌⊎◌, inl, inr, ◌+◌, ◌++◌, ◌∙◌, ℕ, zero, suc, List, [], ◌∷◌, length, map, get_or, slice_get, eqb, cond, Bool, true, false, true≢false, Some, refl, sym, ap, subst, arith, append_assoc, append-nil, length-append, eq-eqb, ne_eqb}
 use mathlib.Core.Logic.{dite}
 use native.Mathlib.Decide.{ℕ_discrete}
 use Rattle.std.proofs.lemmas.Option.{same_Some, none-some}
@@ -7,7 +7,6 @@ use Rattle.ho_base.specs.declared.receipts.Receipt.{Receipt}
 use Rattle.ho_base.specs.declared.receipts.Receipt.TheVariants.{Place}
 use Rattle.ho_model.specs.declared.marks.EntryMark.{EntryMark}
 use Rattle.ho_model.specs.declared.objects.Object.{Object}
-use Rattle.ho_model.specs.declared.histories.Entry.{Entry}
 use Rattle.ho_model.specs.Histories.{part}
 use Rattle.ho_model.specs.Written.{entry_of, history_of}
 use Rattle.passes.specs.Numbers.{HasNumber}

@@ -11,7 +11,6 @@ use Rattle.ho_model.specs.declared.marks.CallMark.{CallMark}
 use Rattle.ho_model.specs.declared.marks.EntryMark.{EntryMark}
 use Rattle.ho_model.specs.declared.objects.Object.{Object}
 use Rattle.ho_model.specs.declared.histories.Call.{Call}
-use Rattle.ho_model.specs.Histories.{part}
 use Rattle.ho_model.specs.Objects.{empty_state}
 use Rattle.ho_model.specs.Written.{call_of, entry_of}
 use Rattle.passes.specs.Numbers.{HasNumber, held_count, held_both, give, only}
@@ -143,7 +142,8 @@ begun_more rows more p h = record {
   calls = λ c has. (
     (h.calls c has).0 ++ map call_of (calls_by c more),
     ap (map call_of) (calls_by-append c rows more) ∙ (map-append call_of (calls_by c rows) (calls_by c more)
-    ∙ (ap (λ (l : List CallMark). l ++ map call_of (calls_by c more)) (h.calls c has).1 ∙ append_assoc (calls_seen c p.seen) (h.calls c has).0 (map call_of (calls_by c more)))));
+        ∙ (ap (λ (l : List CallMark). l ++ map call_of (calls_by c more)) (h.calls c has).1 ∙ append_assoc (calls_seen c p.seen) (h.calls c has).0 (map call_of (calls_by c more)))),
+  );
 }
 
 rows_first : (rows : List ScriptRow) (i : ℕ) (row : ScriptRow) → i < length rows → row ≡ get_or rows i row → take (i + 1) rows ≡ take i rows ++ row ∷ []

@@ -1,7 +1,7 @@
 use Rattle.std.proofs.Common.{sym}
 use Rattle.std.proofs.lemmas.List.{get_or_default}
 use Rattle.drive_kit.specs.Playing.{pass_of}
-use Rattle.drive_kit.proofs.PlayLemmas.{none_made_yet, row_begun, rows_unpaid, same_at_start, same_on}
+use Rattle.drive_kit.proofs.PlayLemmas.{none_made_yet, row_begun, rows_unpaid, same_at_start}
 use Rattle.drive_kit.proofs.callers.play_rows.Goals as goal
 
 pub loop-row-init : goal.loop-row-init

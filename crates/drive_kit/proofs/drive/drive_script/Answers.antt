@@ -1,4 +1,4 @@
-use Rattle.std.proofs.Common.{rules, ◌≡◌, IfOk, List, map, sym, subst}
+use Rattle.std.proofs.Common.{rules, ◌≡◌, IfOk, List, map, subst}
 use Rattle.drive_kit.specs.Playing.{HasPlayed, IsFirst, IsPlayed, pass_of}
 use Rattle.drive_kit.specs.declared.scripts.ScriptRow.{ScriptRow}
 use Rattle.weave.specs.Parts.{PartMade, Told, OfDifferentCallers, entry_told}
