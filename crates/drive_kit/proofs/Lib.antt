@@ -3,7 +3,7 @@ pub mod CheckLemmas
 pub mod DriveLemmas
 pub mod HistoryLemmas
 pub mod NumberLemmas
-pub mod OrderLemmas
+pub mod PartLemmas
 pub mod PassLemmas
 pub mod PlanLemmas
 pub mod PlayLemmas

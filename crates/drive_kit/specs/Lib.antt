@@ -6,7 +6,7 @@ pub mod Driving
 pub mod Histories
 pub mod Numbers
 pub mod Objects
-pub mod Ordering
+pub mod Parts
 pub mod Plans
 pub mod Playing
 pub mod Replies

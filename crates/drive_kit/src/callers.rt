@@ -1,69 +1,49 @@
 // The callers of a script, side by side, each played by a worker of its own.
-ghost use Rattle.std.specs.Prelude.{◌≡◌, ◌↔◌, IfOk, IsTrue};
+ghost use Rattle.std.specs.Prelude.{◌≡◌, ◌↔◌, IfOk, IsTrue, OnErr};
 ghost use Rattle.std.specs.Thread.{IsSync};
 ghost use Rattle.ho_base.specs.Marks.{number_priority};
-ghost use Rattle.ho_base.specs.declared.receipts.Receipt.TheVariants.{Place};
 ghost use Rattle.passes.specs.Numbers.{HasNumber};
-ghost use Rattle.passes.specs.Calls.{IsSamePass, Joins};
+ghost use Rattle.passes.specs.Calls.{AddsNoEntry, IsSamePass, Joins};
 ghost use Rattle.drive_kit.specs.Calls.{IsCallOf, kind_of};
-ghost use Rattle.drive_kit.specs.Playing.{AddsPlaced, HasPlayed, HoldsOne, IsAppended, IsOf, IsPlace, IsPlayed, MayPlay, PlaysRow, pass_of};
+ghost use Rattle.drive_kit.specs.Playing.{AddsMade, HoldsOne, IsAlone, IsAppended, IsOf, IsPlayed, MayPlay, PlaysRow, PlaysRows, pass_of};
 
 use crate::scripts::ScriptRow;
 use crate::stands::{DrivenPass, Stand, caller_of, has_spare, play, split, take_in};
-use ho_base::{NoMemory, Receipt};
+use ho_base::NoMemory;
 use ho_io::Gate;
-use ho_model::{Call, Entry};
+use ho_model::Call;
 use std::alloc::Global;
 use std::sync::Wait;
 use std::thread::{Threads, join};
+use weave::{Made, Part};
 
-/// An entry, and how many entries of the history stand before it.
-#[derive(Drop)]
-pub(crate) struct PlacedEntry {
-    pub(crate) place: u64,
-    pub(crate) entry: Entry,
-}
-
-/// What workers leave: the pass with their numbers, and their entries, unless one found no memory.
+/// What workers leave: the pass with their numbers, and their parts, unless one found no memory.
 #[derive(Drop)]
 pub(crate) struct Played {
     pub(crate) pass: DrivenPass,
-    pub(crate) made: Result<Vec<PlacedEntry>, NoMemory>,
+    pub(crate) made: Result<Vec<Part>, NoMemory>,
 }
 
-fn place_of(receipt: Receipt) -> u64
-    requires { IsPlace receipt }
-    ensures { receipt ≡ Place result }
-{
-    match receipt {
-        Receipt::Place { number } => number,
-        _ => unreachable!(),
-    }
-}
-
-// Makes one call, and tells its entry with its place.
+// Makes one call, and keeps its reply and its receipt.
 fn play_call<R: Wait>(
     rt: &R,
     alloc: Global,
     stand: &Stand,
     pass: &mut DrivenPass,
     call: Call,
-) -> Result<PlacedEntry, NoMemory>
+) -> Result<Made, NoMemory>
     requires of { IsOf stand.now pass.old }
     requires call { IsCallOf (kind_of (pass_of pass.old).object) call }
     ensures of { IsOf stand.now pass.new }
     ensures same { IsSamePass (pass_of pass.old) (pass_of pass.new) }
-    ensures adds { IfOk result (λ made. AddsPlaced (pass_of pass.old) call made (pass_of pass.new)) }
+    ensures adds { IfOk result (λ made. AddsMade stand.now (pass_of pass.old) call made (pass_of pass.new)) }
+    ensures adds_none { OnErr result (AddsNoEntry number_priority (pass_of pass.old) (pass_of pass.new)) }
 {
-    let caller = caller_of(pass);
     let (reply, receipt) = play(rt, alloc, stand, pass, call)?;
-    Ok(PlacedEntry {
-        place: place_of(receipt),
-        entry: Entry {
-            caller,
-            call,
-            reply,
-        },
+    Ok(Made {
+        call,
+        reply,
+        receipt,
     })
 }
 
@@ -74,15 +54,17 @@ fn is_own(pass: &DrivenPass, row: ScriptRow) -> bool
     row.caller == caller_of(pass)
 }
 
-// Plays a row, if it is that of the pass's caller. The gate comes before the call.
+// Plays a row, if it is that of the pass's caller. The gate comes before the call, with the count of those
+// before.
 fn play_row<G: Gate, R: Wait>(
     rt: &R,
     alloc: Global,
     stand: &Stand,
     pass: &mut DrivenPass,
     gate: &G,
+    turn: &mut u64,
     row: ScriptRow,
-    made: &mut Vec<PlacedEntry>,
+    own: &mut Part,
 ) -> Result<(), NoMemory>
     requires of { IsOf stand.now pass.old }
     requires call { IsCallOf (kind_of (pass_of pass.old).object) row.call }
@@ -90,14 +72,15 @@ fn play_row<G: Gate, R: Wait>(
     requires one { HoldsOne (pass_of pass.old) }
     ensures of { IsOf stand.now pass.new }
     ensures same { IsSamePass (pass_of pass.old) (pass_of pass.new) }
-    ensures played { IfOk result (λ _. PlaysRow row (pass_of pass.old) made.old.items (pass_of pass.new) made.new.items) }
+    ensures played { PlaysRow stand.now row (pass_of pass.old) own.old (pass_of pass.new) own.new result }
 {
     if !is_own(pass, row) {
         return Ok(());
     }
-    gate.at(rt, row.caller, made.len() as u64);
-    let entry = play_call(rt, alloc, stand, pass, row.call)?;
-    made.push(entry)?;
+    gate.at(rt, row.caller, *turn);
+    *turn = turn.saturating_add(1);
+    let made = play_call(rt, alloc, stand, pass, row.call)?;
+    own.push(made)?;
     Ok(())
 }
 
@@ -109,18 +92,29 @@ fn play_rows<G: Gate, R: Wait>(
     pass: &mut DrivenPass,
     gate: &G,
     rows: &[ScriptRow],
-) -> Result<Vec<PlacedEntry>, NoMemory>
+) -> Result<Part, NoMemory>
     requires ready { MayPlay stand.now rows.now pass.old }
     requires one { HoldsOne (pass_of pass.old) }
     ensures of { IsOf stand.now pass.new }
     ensures same { IsSamePass (pass_of pass.old) (pass_of pass.new) }
-    ensures played { IfOk result (λ made. HasPlayed rows.now (pass_of pass.new) made.items) }
+    ensures played { PlaysRows stand.now rows.now (pass_of pass.new) result }
 {
-    let mut made = Vec::new(alloc);
+    let mut own = Part::new(alloc, caller_of(pass));
+    let mut turn = 0;
     for row in rows {
-        play_row(rt, alloc, stand, pass, gate, *row, &mut made)?;
+        play_row(rt, alloc, stand, pass, gate, &mut turn, *row, &mut own)?;
     }
-    Ok(made)
+    Ok(own)
+}
+
+// The list of one part.
+fn alone(alloc: Global, own: Result<Part, NoMemory>) -> Result<Vec<Part>, NoMemory>
+    ensures { IsAlone own result }
+{
+    let own = own?;
+    let mut parts = Vec::new(alloc);
+    parts.push(own)?;
+    Ok(parts)
 }
 
 // The work of one caller.
@@ -136,15 +130,18 @@ fn play_own<G: Gate, R: Wait>(
     requires one { HoldsOne (pass_of pass) }
     ensures { IsPlayed stand.now rows.now (pass_of pass) result }
 {
-    let made = play_rows(rt, alloc, stand, &mut pass, gate, rows);
-    Played { pass, made }
+    let own = play_rows(rt, alloc, stand, &mut pass, gate, rows);
+    Played {
+        pass,
+        made: alone(alloc, own),
+    }
 }
 
-// The entries of both.
+// The parts of both.
 fn append(
-    made: Result<Vec<PlacedEntry>, NoMemory>,
-    more: Result<Vec<PlacedEntry>, NoMemory>,
-) -> Result<Vec<PlacedEntry>, NoMemory>
+    made: Result<Vec<Part>, NoMemory>,
+    more: Result<Vec<Part>, NoMemory>,
+) -> Result<Vec<Part>, NoMemory>
     ensures { IsAppended made more result }
 {
     let mut all = made?;

@@ -5,7 +5,6 @@ ghost use Rattle.drive_kit.specs.Plans.{callers_of};
 
 use crate::Script;
 use crate::callers::{Played, play_all};
-use crate::ordering::in_order;
 use crate::stands::{DrivenPass, make};
 use ho_base::NoMemory;
 use ho_io::Gate;
@@ -13,6 +12,7 @@ use ho_model::History;
 use std::alloc::Global;
 use std::sync::Wait;
 use std::thread::Threads;
+use weave::weave_placed;
 
 // How many callers there are.
 fn caller_count(script: &Script) -> u32
@@ -45,6 +45,7 @@ pub fn drive_script<G: Gate, R: Wait + Threads + Sync>(
 {
     let (stand, pass) = make(alloc, script.object(), caller_count(script))?;
     let Played { pass, made } = play_all(rt, alloc, &stand, pass, gate, script.rows());
-    let entries = in_order(alloc, made?)?;
-    Ok((History::from_vec(entries), pass))
+    let parts = made?;
+    let history = weave_placed(alloc, &parts)?;
+    Ok((history, pass))
 }

@@ -15,8 +15,8 @@
 //! `text_rows` and `csv` for rows, on `ho_base` for numbers and texts, on `channels`,
 //! `blocking_collection`, `concurrent_bag` and, for queues, `turn_lock` for the objects that scripts are
 //! played on, on `passes` for what their passes have seen, and on `ho_io` for the gate before each call.
-//! Queues are played on behind a turn, since their receipts are the entries' places there, by which the
-//! history is put in order. Those of `ConcurrentQueue` are counts, which leave the order of some calls open.
+//! `weave` makes the history of what each caller made, by the receipts alone. Queues are played on behind a
+//! turn, where receipts are places.
 //!
 //! Want of memory is the one free answer: a `parse_script`, a `parse_history`, a `history_text`, a
 //! `check_history` or a `drive_script` that always gave it would be proved, so tests call each with
@@ -34,7 +34,6 @@ mod history_rows;
 mod laws;
 mod numbers;
 mod objects;
-mod ordering;
 mod replies;
 mod script_rows;
 mod scripts;

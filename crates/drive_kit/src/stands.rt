@@ -1,10 +1,10 @@
 // The shared objects that scripts are played on, and their passes, all played alike.
-ghost use Rattle.std.specs.Prelude.{◌≡◌, ◌<◌, ◌↔◌, IfOk, IsTrue};
+ghost use Rattle.std.specs.Prelude.{◌≡◌, ◌<◌, ◌↔◌, IfOk, IsTrue, OnErr};
 ghost use Rattle.ho_base.specs.Marks.{number_priority};
 ghost use Rattle.passes.specs.Numbers.{held_count};
-ghost use Rattle.passes.specs.Calls.{IsSamePass, Joins, Splits};
+ghost use Rattle.passes.specs.Calls.{AddsNoEntry, IsSamePass, Joins, Splits};
 ghost use Rattle.drive_kit.specs.Calls.{IsCallOf, kind_of};
-ghost use Rattle.drive_kit.specs.Playing.{Adds, IsOf, pass_of};
+ghost use Rattle.drive_kit.specs.Playing.{Adds, IsOf, IsReceiptOn, pass_of};
 
 mod makers;
 mod on_bag;
@@ -79,7 +79,8 @@ pub(crate) fn play<R: Wait>(
     requires call { IsCallOf (kind_of (pass_of pass.old).object) call }
     ensures of { IsOf stand.now pass.new }
     ensures same { IsSamePass (pass_of pass.old) (pass_of pass.new) }
-    ensures adds { IfOk result (λ said. Adds (pass_of pass.old) call said.0 said.1 (pass_of pass.new)) }
+    ensures adds { IfOk result (λ said. Adds (IsReceiptOn stand.now) (pass_of pass.old) call said.0 said.1 (pass_of pass.new)) }
+    ensures adds_none { OnErr result (AddsNoEntry number_priority (pass_of pass.old) (pass_of pass.new)) }
 {
     match stand {
         Stand::Channel(channel) => match pass {

@@ -1,12 +1,13 @@
 // The calls of a script on a bag.
-ghost use Rattle.std.specs.Prelude.{◌≡◌, ◌<◌, IfOk};
+ghost use Rattle.std.specs.Prelude.{◌≡◌, ◌<◌, IfOk, OnErr};
 ghost use Rattle.ho_base.specs.Marks.{number_priority};
 ghost use Rattle.passes.specs.Numbers.{held_count};
-ghost use Rattle.passes.specs.Calls.{IsSamePass, Joins, Splits};
+ghost use Rattle.passes.specs.Calls.{AddsNoEntry, IsSamePass, Joins, Splits};
 ghost use Rattle.ho_model.specs.Written.{giving, mark_of};
 ghost use Rattle.ho_model.specs.declared.histories.Call.TheVariants as calls;
 ghost use Rattle.concurrent_bag.specs.Answers.{take_mark};
 ghost use Rattle.drive_kit.specs.Calls.{IsCallOf, kind_of};
+ghost use Rattle.drive_kit.specs.Parts.{IsPlaceOf};
 ghost use Rattle.drive_kit.specs.Playing.{Adds, IsOf, pass_of, without_obstacles};
 ghost use Rattle.drive_kit.specs.declared.calls.Kind.TheVariants as kind;
 ghost use Rattle.drive_kit.specs.declared.stands.Stand.TheVariants as stand;
@@ -19,7 +20,7 @@ use std::alloc::Global;
 use std::sync::Wait;
 
 // Adds an item to the caller's list.
-#[tactic(auto, using(crate::proofs::PassLemmas::same_without))]
+#[tactic(auto, using(crate::proofs::PassLemmas::same_without, crate::proofs::PassLemmas::none_without))]
 fn add<R: Wait>(
     rt: &R,
     bag: &ConcurrentBag<u64>,
@@ -29,8 +30,10 @@ fn add<R: Wait>(
     requires table { pass.old.table ≡ bag.now }
     requires kind { kind_of pass.old.object ≡ kind.Bag }
     ensures same { IsSamePass (without_obstacles pass.old) (without_obstacles pass.new) }
-    ensures adds { IfOk result (λ said. Adds (without_obstacles pass.old)
+    ensures adds { IfOk result (λ said. Adds IsPlaceOf (without_obstacles pass.old)
         (calls.Add item) said.0 said.1 (without_obstacles pass.new)) }
+    ensures adds_none { OnErr result (AddsNoEntry number_priority (without_obstacles pass.old)
+        (without_obstacles pass.new)) }
 {
     match bag.add(rt, pass, item) {
         Ok((BagAdd::Done, receipt)) => Ok((Reply::Done, receipt)),
@@ -50,7 +53,7 @@ fn taken(said: BagTake<u64>) -> Reply
 }
 
 // Makes a call of a script on a bag.
-#[tactic(auto, using(crate::proofs::PassLemmas::same_without))]
+#[tactic(auto, using(crate::proofs::PassLemmas::same_without, crate::proofs::PassLemmas::none_without))]
 pub(super) fn play<R: Wait>(
     rt: &R,
     alloc: Global,
@@ -62,7 +65,9 @@ pub(super) fn play<R: Wait>(
     requires kind { kind_of pass.old.object ≡ kind.Bag }
     requires call { IsCallOf kind.Bag call }
     ensures same { IsSamePass (without_obstacles pass.old) (without_obstacles pass.new) }
-    ensures adds { IfOk result (λ said. Adds (without_obstacles pass.old) call said.0 said.1
+    ensures adds { IfOk result (λ said. Adds IsPlaceOf (without_obstacles pass.old) call said.0 said.1
+        (without_obstacles pass.new)) }
+    ensures adds_none { OnErr result (AddsNoEntry number_priority (without_obstacles pass.old)
         (without_obstacles pass.new)) }
 {
     match call {

@@ -1,11 +1,12 @@
 // The calls of a script on a blocking collection.
-ghost use Rattle.std.specs.Prelude.{◌≡◌, ◌<◌, IfOk};
+ghost use Rattle.std.specs.Prelude.{◌≡◌, ◌<◌, IfOk, OnErr};
 ghost use Rattle.ho_base.specs.Marks.{number_priority};
 ghost use Rattle.passes.specs.Numbers.{held_count};
-ghost use Rattle.passes.specs.Calls.{IsSamePass, Joins, Splits};
+ghost use Rattle.passes.specs.Calls.{AddsNoEntry, IsSamePass, Joins, Splits};
 ghost use Rattle.ho_model.specs.Written.{call_of, giving, mark_of};
 ghost use Rattle.blocking_core.specs.Calls.{call_mark, reply_mark};
 ghost use Rattle.drive_kit.specs.Calls.{IsCallOf, kind_of};
+ghost use Rattle.drive_kit.specs.Parts.{IsPlaceOf};
 ghost use Rattle.drive_kit.specs.Playing.{Adds, IsOf, pass_of};
 ghost use Rattle.drive_kit.specs.declared.calls.Kind.TheVariants as kind;
 ghost use Rattle.drive_kit.specs.declared.stands.Stand.TheVariants as stand;
@@ -63,7 +64,8 @@ pub(super) fn play<R: Wait>(
     requires kind { kind_of pass.old.object ≡ kind.Blocking }
     requires call { IsCallOf kind.Blocking call }
     ensures same { IsSamePass pass.old pass.new }
-    ensures adds { IfOk result (λ said. Adds pass.old call said.0 said.1 pass.new) }
+    ensures adds { IfOk result (λ said. Adds IsPlaceOf pass.old call said.0 said.1 pass.new) }
+    ensures adds_none { OnErr result (AddsNoEntry number_priority pass.old pass.new) }
 {
     match collection.call(rt, pass, own_call(call)) {
         Ok((said, receipt)) => Ok((written(said), receipt)),
