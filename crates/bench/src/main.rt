@@ -9,10 +9,12 @@ ghost use Rattle.std.specs.Prelude.{◌<◌, ◌≤◌, IfSome};
 
 mod bag;
 mod blocking;
+mod deep;
 mod hand_over;
 mod idle;
 mod lag;
 mod pairs;
+mod queue;
 mod solo;
 mod steal;
 mod waits;
@@ -81,12 +83,18 @@ fn print_usage(rt: &impl Print) -> io::Result<()> {
     println!(rt; "block: the same through a blocking collection with bound 1024")?;
     println!(rt; "solo: one caller writes and reads N numbers, one after another")?;
     println!(rt; "pairs: P threads enqueue a number and dequeue one, N times in all")?;
+    println!(rt; "pairs2, pairs1024: the same with another length of the first segment than 32")?;
+    println!(rt; "counted: the same as pairs while one more thread counts all the time")?;
+    println!(rt; "queue: P threads enqueue N numbers for C that dequeue, with room for 1024")?;
+    println!(rt;
+        "deep: one caller fills a queue with 60000 numbers and drains it, N numbers in all"
+    )?;
     println!(rt; "bag: P threads add four items to a bag and take four, N items in all")?;
     println!(rt; "steal: one adder puts N items into a bag, and C takers steal them")?;
     println!(rt; "lag50, lag90, lag99: one writer writes an item every 2 ms to C idle readers")?;
     println!(rt; "idle: C readers wait on an empty channel for N nanoseconds")?;
     println!(rt;
-        "P and C are 1 to 32, N is 1 to 1000000000; C is 0 for pairs and bag, P is 1 for steal, lag and idle"
+        "P and C are 1 to 32, N is 1 to 1000000000; C is 0 for pairs, counted, deep and bag, P is 1 for steal, deep, lag and idle"
     )?;
     Ok(())
 }
@@ -124,12 +132,17 @@ fn measured<R: Wait + Threads + Sync + Clock>(
     let readers = number_within(readers, 0, MOST_CALLERS)?;
     let count = number_within(count, 1, MOST_OPERATIONS)?;
     let nanoseconds = match (workload.as_str(), readers) {
-        ("pairs", 0) => pairs::nanoseconds(rt, alloc, writers, count),
+        ("pairs", 0) => pairs::nanoseconds(rt, alloc, 32, writers, 0, count),
+        ("pairs2", 0) => pairs::nanoseconds(rt, alloc, 2, writers, 0, count),
+        ("pairs1024", 0) => pairs::nanoseconds(rt, alloc, 1024, writers, 0, count),
+        ("counted", 0) => pairs::nanoseconds(rt, alloc, 32, writers, 1, count),
+        ("deep", 0) if writers == 1 => deep::nanoseconds(rt, alloc, count),
         ("bag", 0) => bag::nanoseconds(rt, alloc, writers, count),
         (_, 0) => return None,
         ("chan", _) => hand_over::nanoseconds(rt, alloc, writers, readers, count),
         ("wait", _) => waits::nanoseconds(rt, alloc, writers, readers, count),
         ("block", _) => blocking::nanoseconds(rt, alloc, writers, readers, count),
+        ("queue", _) => queue::nanoseconds(rt, alloc, writers, readers, count),
         ("lag50", _) => return Some(lag::nanoseconds(rt, alloc, readers, count, 50)),
         ("lag90", _) => return Some(lag::nanoseconds(rt, alloc, readers, count, 90)),
         ("lag99", _) => return Some(lag::nanoseconds(rt, alloc, readers, count, 99)),

@@ -5,7 +5,7 @@ ghost use Rattle.concurrent_queue.specs.Queues.{IsOf};
 use crate::Trouble;
 use crate::hand_over::{Outcome, Task, longest, tasks_of};
 use concurrent_queue::{ConcurrentQueue, DequeueReply, EnqueueReply, QueuePass};
-use races::{Race, Tally};
+use races::{Countdown, Race, Tally};
 use std::alloc::Global;
 use std::sync::Wait;
 use std::thread::Threads;
@@ -40,10 +40,29 @@ fn pair_all<R: Wait>(
     Some(sum)
 }
 
-/// The queue that all threads share.
+/// Counts the items until all pairs are made.
+fn count_all<R: Wait>(
+    rt: &R,
+    queue: &ConcurrentQueue,
+    mut pass: QueuePass,
+    pairing: &Countdown,
+) -> Option<u64>
+    requires { IsOf queue.now pass }
+{
+    for _ in rt.forever() {
+        if pairing.is_over() {
+            return Some(0);
+        }
+        let _ = queue.count(rt, &mut pass);
+    }
+    unreachable!()
+}
+
+/// The queue that all threads share, and how many make pairs.
 #[derive(Drop)]
 struct Pairs<'r> {
     queue: &'r ConcurrentQueue,
+    pairing: &'r Countdown,
 }
 
 impl<'r> Race for Pairs<'r> {
@@ -66,28 +85,39 @@ impl<'r> Race for Pairs<'r> {
     fn run<R: Wait + Clock>(&self, rt: &R, pass: QueuePass, task: Task) -> Outcome {
         let start = Instant::now(rt).ok();
         let sum = match task {
-            Task::Write(from, to) => pair_all(rt, self.queue, pass, from, to),
-            Task::Read => None,
+            Task::Write(from, to) => {
+                let sum = pair_all(rt, self.queue, pass, from, to);
+                self.pairing.count_off();
+                sum
+            }
+            Task::Read => count_all(rt, self.queue, pass, self.pairing),
         };
         (start, sum)
     }
 }
 
-/// How long so many threads take to make so many pairs.
+/// How long so many threads take to make so many pairs on a queue whose first segment has `first_len` slots,
+/// while others count its items all the time.
 pub fn nanoseconds<R: Wait + Threads + Sync + Clock>(
     rt: &R,
     alloc: Global,
+    first_len: u32,
     threads: u64,
+    counters: u64,
     count: u64,
 ) -> Result<u64, Trouble>
     requires callers { (0 < threads) × (threads ≤ 32) }
     requires count { count ≤ 1000000000 }
 {
-    let Ok((queue, pass)) = ConcurrentQueue::new(alloc, 1024, 32, 64) else {
+    let Ok((queue, pass)) = ConcurrentQueue::new(alloc, 1024, first_len, 64) else {
         return Err(Trouble::NoMemory);
     };
-    let race = Pairs { queue: &queue };
-    let tasks = tasks_of(alloc, threads, 0, count)?;
+    let pairing = Countdown::new(threads);
+    let race = Pairs {
+        queue: &queue,
+        pairing: &pairing,
+    };
+    let tasks = tasks_of(alloc, threads, counters, count)?;
     let outcomes = races::run(rt, alloc, &race, pass, tasks)?;
     longest(rt, outcomes, Tally::below(count))
 }

@@ -1,0 +1,5 @@
+use Rattle.concurrent_queue.specs.Queues.{IsOf}
+use Rattle.bench.proofs.deep.fill.Given as goal
+
+abbrev pub invariant-loop-number : goal.invariant-loop-number
+invariant-loop-number g l = IsOf l.queue l.pass
