@@ -189,7 +189,7 @@ windows_end p q w (Answer o receipt) a table own below m =
       record { window = m.1.window; hand = m.1.hand; stage = m.1.stage; joint = m.0.joint },
       m.1.at,
     )
-windows_end p q w (Again Lost) a table own below m = let k = m.1 in (m.0, (k.0, paid_ends p q k.0 (paid_goes p.view w q.view [] k.0 a k.1) table own below, (k.2, not_whole p.view w [] a.walks k.3)))
+windows_end p q w (Again Lost) a table own below m = let k = m.1 in (m.0, (k.0, paid_ends p q Lost k.0 (omega arith) (paid_goes p.view w q.view [] k.0 a k.1) table own below, (k.2, not_whole p.view w [] a.walks k.3)))
 windows_end p q w (Again Turn) a table own below k = absurd k
 windows_end p q w (Again InFlight) a table own below k = absurd k
 windows_end p q w (Again NoPlace) a table own below k = absurd k

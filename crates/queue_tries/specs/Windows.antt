@@ -55,7 +55,7 @@ module _ (p q : QueueView) where
   -- One try of a snapshot. Its reply is the list of the window's items, of which none is given.
   abbrev pub WindowsOnce : QueueOnce Window → Type 0
   WindowsOnce (Answer w receipt) = MakesEntry p q (entry p.view.caller Snap (Numbers (items_of q.view.seen w))) receipt × HasOpened q w × (w.at ≡ w.head)
-  WindowsOnce (Again again) = IsAtRest q.view × ((read : List Obstacle) × MakesNone p q read × CountCause p q read again)
+  WindowsOnce (Again again) = IsAtRest q.view × ((read : List Obstacle) × MakesNone p q again read × CountCause p q read again)
   WindowsOnce Spent = IsSpent p q
 
   -- The pass has read this of others, and is the same but for its window.
