@@ -2,4 +2,4 @@ use Rattle.std.proofs.Common.{◌≡◌}
 use Rattle.race_tests.proofs.bag_once.Trying.meet_entry.Given as goal
 
 abbrev pub invariant-loop : goal.invariant-loop
-invariant-loop g l = l.pass.table ≡ l.self.bag
+invariant-loop l = l.pass.table ≡ l.self.bag
