@@ -9,7 +9,8 @@
 //! Of obstacles the contracts show only those that a pass has met: a call may be repeated until it has its
 //! answer, and what they say of counts and obstacles holds however often it was. Each answer of a try that
 //! is none has its cause in its contract (`specs/Tries.antt`): `Lost`, `Turn` and `InFlight` never come with a
-//! pass that holds all numbers. That a try ever succeeds is not promised.
+//! pass that holds all numbers. That a try ever succeeds is not promised, nor that one with an answer took the
+//! turn only where it must.
 //!
 //! Enqueues, dequeues, peeks and counts take no memory. They take constant time but for the segments that
 //! first is moved past, and where an enqueue opens a segment: it looks into all places for a free one, and
