@@ -1,6 +1,6 @@
 -- What calls leave of the pass of the segments' table, as the queue's pass tells it.
 use Rattle.std.proofs.Common.{◌≡◌, ℕ, zero, suc, ◌+◌, ◌*◌, ◌<◌, List, sym, refl, ap, ◌∙◌, subst, arith}
-use Rattle.std.specs.Prelude.{◌/◌}
+use Rattle.std.specs.Prelude.{◌/◌, None}
 use Rattle.std.proofs.Math.Nat.{mul-div_cancel}
 use Rattle.atomic_table.specs.Seated.{TableId}
 use Rattle.ho_base.specs.Marks.{number_priority}
@@ -53,30 +53,32 @@ module _ (queue : QueueShape) (p : segments.QueueView) where
       let of = r.1 in
       let mine : p.table.words ≡ words_of (places_of queue.form.room queue.form.first_len p.view.callers) (longest_of queue.form.first_len) = r.0.words ∙ ap (λ (o : Object). words_of (places_in o p.view.callers) (slots_in o)) of.1 in
       let its : queue.table.words ≡ words_of (places_of queue.form.room queue.form.first_len queue.form.callers) (longest_of queue.form.first_len) = words ∙ (λ i. words_of (shape.places i) (shape.slots i)) in
-      ((of.0, of.1, same_callers queue.form.room queue.form.first_len p.view.callers queue.form.callers (longest_of queue.form.first_len) (sym mine ∙ (ap (λ (t : TableId). t.words) of.0 ∙ its))), r.0.rest)
+      ((of.0, of.1, same_callers queue.form.room queue.form.first_len p.view.callers queue.form.callers (longest_of queue.form.first_len) (sym mine ∙ (ap (λ (t : TableId). t.words) of.0 ∙ its))), record { hand = r.0.hand; stage = r.0.stage; window = of.2; joint = r.0.joint })
 
   -- one that is idle
   pub idle_between : IsIdle queue p → IsShape queue.form → queue.table.words ≡ words_of queue.form.places queue.form.slots → IsBetween p
   idle_between idle shape words = let of = idle.0 in record {
-    rest = idle.1;
+    hand = idle.1.hand;
+    stage = idle.1.stage;
+    joint = idle.1.joint;
     words =
         ap (λ (t : TableId). t.words) of.0 ∙ (words ∙ (λ i. words_of ((shape.places ∙ (λ j. places_in (sym of.1 j) (sym of.2 j))) i) ((shape.slots ∙ ap slots_in (sym of.1)) i)));
   }
 
-module _ (queue : QueueShape) (p q : segments.QueueView) (of : IsOf (id_of queue) (queue_view p)) where
+module _ (queue : QueueShape) (p q : segments.QueueView) (of : IsOf (id_of queue) (queue_view p)) (still : q.view.window ≡ None) where
   -- An entry.
 
   receipt_as : (e : EntryMark) (before : List EntryMark) (receipt : Receipt) → IsQueueReceipt (first_len_in p.view.object) e.call e.reply (tally_of before) receipt → IsQueueReceipt queue.form.first_len e.call e.reply (tally_of before) receipt
   receipt_as e before receipt = subst (λ (o : Object). IsQueueReceipt (first_len_in o) e.call e.reply (tally_of before) receipt) of.1
 
   pub ends_as : (e : EntryMark) (receipt : Receipt) → Ends p q e receipt → Answers queue.form.first_len (queue_view p) e receipt (queue_view q)
-  ends_as e receipt h = (h.0, h.1, receipt_as e h.0 receipt h.2, refl)
+  ends_as e receipt h = (h.0, h.1, receipt_as e h.0 receipt h.2, still ∙ sym of.2)
 
   entry_as : (e : EntryMark) (receipt : Receipt) → tries.MakesEntry p q e receipt → AnswersOnce (queue_view p) (queue_view q) queue.form.first_len e receipt
-  entry_as e receipt h = (h.below_limit, (h.before, h.ends, receipt_as e h.before receipt h.receipt_is, refl), h.counted)
+  entry_as e receipt h = (h.below_limit, (h.before, h.ends, receipt_as e h.before receipt h.receipt_is, still ∙ sym of.2), h.counted)
 
   none_as : (read : List Obstacle) → tries.MakesNone p q read → MakesNone (queue_view p) (queue_view q) read
-  none_as read h = record { below_limit = h.below_limit; same = h.same; no_entry = h.no_entry; counted = h.counted; met = h.met; window = refl }
+  none_as read h = record { below_limit = h.below_limit; same = h.same; no_entry = h.no_entry; counted = h.counted; met = h.met; window = still ∙ sym of.2 }
 
   -- One try of each call.
 
@@ -115,16 +117,16 @@ module _ (queue : QueueShape) (p q : segments.QueueView) (of : IsOf (id_of queue
 -- A split, and a join.
 
 pub splits_as : (p q other : segments.QueueView) → SplitsPass p q other → SplitsQueue (queue_view p) (queue_view q) (queue_view other)
-splits_as p q other s = (record { kept = ap pass_of s.kept; given = ap pass_of s.given; spare = s.spare; least = s.least }, refl, refl)
+splits_as p q other s = (record { kept = ap pass_of s.kept; given = ap pass_of s.given; spare = s.spare; least = s.least }, ap (λ (z : segments.QueueView). z.view.window) s.kept, ap (λ (z : segments.QueueView). z.view.window) s.given)
 
 pub split_kept : (p q other : segments.QueueView) → SplitsPass p q other → IsBetween p → IsBetween q
-split_kept p q other s b = subst IsBetween (sym s.kept) record { rest = record { hand = b.rest.hand; stage = b.rest.stage; window = b.rest.window; joint = b.rest.joint }; words = b.words }
+split_kept p q other s b = subst IsBetween (sym s.kept) record { hand = b.hand; stage = b.stage; joint = b.joint; words = b.words }
 
 pub split_given : (p q other : segments.QueueView) → SplitsPass p q other → IsBetween p → IsBetween other
-split_given p q other s b = subst IsBetween (sym s.given) record { rest = record { hand = refl; stage = refl; window = refl; joint = refl }; words = b.words }
+split_given p q other s b = subst IsBetween (sym s.given) record { hand = refl; stage = refl; joint = refl; words = b.words }
 
 pub joins_as : (p other q : segments.QueueView) → JoinsPass p other q → JoinsQueue (queue_view p) (queue_view other) (queue_view q)
-joins_as p other q j = (subst (λ (z : segments.QueueView). Joins number_priority (pass_of p) (pass_of other) (pass_of z)) (sym j.joined_as) record { joined = refl; apart = j.tells.0.apart; first = j.tells.0.first; second = j.tells.0.second; lawful = j.tells.1 }, refl)
+joins_as p other q j = (subst (λ (z : segments.QueueView). Joins number_priority (pass_of p) (pass_of other) (pass_of z)) (sym j.joined_as) record { joined = refl; apart = j.tells.0.apart; first = j.tells.0.first; second = j.tells.0.second; lawful = j.tells.1 }, ap (λ (z : segments.QueueView). z.view.window) j.joined_as)
 
 pub join_kept : (p other q : segments.QueueView) → JoinsPass p other q → IsBetween p → IsBetween q
-join_kept p other q j b = subst IsBetween (sym j.joined_as) record { rest = record { hand = b.rest.hand; stage = b.rest.stage; window = b.rest.window; joint = refl }; words = b.words }
+join_kept p other q j b = subst IsBetween (sym j.joined_as) record { hand = b.hand; stage = b.stage; joint = refl; words = b.words }
