@@ -5,6 +5,7 @@ pub mod Telling
 pub mod Queues
 pub mod Segments
 pub mod Tries
+pub mod Windows
 -- what the clauses of the public calls cite from below
 pub use Rattle.ho_base.specs.Marks
 pub use Rattle.ho_model.specs.Entries

@@ -8,15 +8,15 @@ use Rattle.passes.specs.Views.{PassView}
 use Rattle.passes.specs.Calls.{Splits, Joins}
 use Rattle.passes.specs.Repeats.{EndsByEntry}
 use Rattle.seg_rule.specs.declared.view.Obstacle.{Obstacle}
+use Rattle.seg_rule.specs.declared.view.Window.{Window}
 use Rattle.turn_lock.specs.Passes.{LockPass}
 use Rattle.turn_lock.specs.declared.view.Obstacle as turn
 use Rattle.ho_base.specs.Marks.{number_priority}
 
--- What all passes have in common; and which window the pass has open, by the count of entries before
--- the snapshot that opened it. No call opens one yet.
+-- What all passes have in common; and the window that the pass has open: the places that it holds, and what it has read of the first one.
 pub record WindowedPass (O : Type 0) : Type 0 where
   pub pass : PassView O
-  pub window : Option ℕ
+  pub window : Option Window
 
 -- a pass of the queue that is stored in segments, and of the one behind a turn
 abbrev pub QueueView : Type 0

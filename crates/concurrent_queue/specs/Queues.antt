@@ -33,3 +33,7 @@ module _ {O : Type 0} where
   -- the pass is of the queue, and has no window open
   abbrev pub IsOf : QueueId → WindowedPass O → Type 0
   IsOf q p = (p.pass.table ≡ q.table) × (p.pass.object ≡ object.Queue q.room q.first_len) × (p.window ≡ None)
+
+  -- the pass is of the queue, and may have a window open
+  abbrev pub IsInside : QueueId → WindowedPass O → Type 0
+  IsInside q p = (p.pass.table ≡ q.table) × (p.pass.object ≡ object.Queue q.room q.first_len)

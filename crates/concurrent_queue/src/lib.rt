@@ -43,7 +43,7 @@ pub use ho_model::{Items, Tally};
 pub use machine::QueueMachine;
 pub use pass::QueuePass;
 pub use queue::ConcurrentQueue;
-pub use queue_tries::{DequeueReply, EnqueueReply, QueueAgain, QueueOnce};
+pub use queue_tries::{DequeueReply, EnqueueReply, Next, QueueAgain, QueueOnce, Window};
 pub use refusals::QueueRefused;
 pub use seg_rule::Obstacle;
 pub use turn_pass::TurnQueuePass;

@@ -1,11 +1,11 @@
 // The queue that callers share.
-ghost use Rattle.std.specs.Prelude.{◌≡◌, ◌<◌, ◌≤◌, ◌∷◌, [], ◌↔◌, IfOk, Err};
+ghost use Rattle.std.specs.Prelude.{◌≡◌, ◌<◌, ◌≤◌, ◌∷◌, [], ◌↔◌, None, IfOk, Err};
 
 use crate::pass::QueuePass;
 use crate::refusals::{QueueRefused, is_bad_room, is_first_length, is_too_large};
 use crate::segments;
 use ho_base::Receipt;
-use queue_tries::{DequeueReply, EnqueueReply, QueueOnce};
+use queue_tries::{DequeueReply, EnqueueReply, Next, QueueOnce, Window};
 use seg_rule::QueueTable;
 use std::alloc::Global;
 use std::marker::Model;
@@ -19,8 +19,8 @@ use std::sync::Wait;
 /// item take no lock. A call waits for others only while they open a segment, count, or have enqueued the
 /// first item and not put it into its slot yet; an enqueue also while takes of others that are not done, or
 /// snapshots, hold the places that the next segment could go to. It never waits for room, nor for an item. It
-/// asks that its pass has no window open, as no pass has yet. A caller makes at most 2^48 calls: one more waits
-/// for good, or is `Spent`.
+/// asks that its pass has no window open, but for the two calls that read and end it. A caller makes at most
+/// 2^48 calls: one more waits for good, or is `Spent`.
 ///
 /// Each call has a form that tries once, and waits for nobody. Its answer counts one call of the caller, an
 /// `Again` with `InFlight` or `NoPlace` too; one with `Lost` counts at most one, and one with `Turn` none.
@@ -45,7 +45,8 @@ impl ConcurrentQueue {
     ghost use Rattle.passes.specs.Numbers.{held_count};
     ghost use Rattle.queue_tries.specs.Tries.{enqueue_mark, dequeue_mark};
     ghost use Rattle.concurrent_queue.specs.Passes.{Answers, SplitsQueue, JoinsQueue};
-    ghost use Rattle.concurrent_queue.specs.Queues.{IsBadRoom, IsFirstLength, IsTooLarge, IsOf, first_of};
+    ghost use Rattle.concurrent_queue.specs.Queues.{IsBadRoom, IsFirstLength, IsTooLarge, IsOf, IsInside, first_of};
+    ghost use Rattle.concurrent_queue.specs.Windows.{HasOpened, WindowsOnce, Gives};
     ghost use Rattle.concurrent_queue.specs.Tries.{EnqueuesOnce, DequeuesOnce, PeeksOnce, CountsOnce};
     ghost use Rattle.concurrent_queue.specs.declared.refusals.QueueRefused.TheVariants.{BadRoom, BadLength, TooLarge};
 
@@ -193,5 +194,38 @@ impl ConcurrentQueue {
         ensures { CountsOnce pass.old pass.new self.now.first_len result }
     {
         segments::count_once(&self.table, &mut pass.pass)
+    }
+
+    /// Tries to take a snapshot of all items once, and opens a window on it, which gives them one by one
+    /// (`ToArray`): it makes no second try where another caller has the turn, or enqueued meanwhile. Takes no
+    /// memory.
+    ///
+    /// The receipt is `Looked`. The places in which the items lie are not used again until their items are given
+    /// or the window is ended.
+    pub fn window_once(&self, pass: &mut QueuePass) -> QueueOnce<Window>
+        requires { IsOf self.now pass.old }
+        ensures { WindowsOnce pass.old pass.new self.now.first_len result }
+    {
+        segments::window_once(&self.table, &mut pass.pass)
+    }
+
+    /// The next item of a window that this pass has opened, if one is left and it is published. It makes no
+    /// entry, and takes no memory.
+    pub fn window_next(&self, pass: &mut QueuePass, window: &mut Window) -> Next
+        requires of { IsInside self.now pass.old }
+        requires opened { HasOpened pass.old window.old }
+        ensures opened { HasOpened pass.new window.new }
+        ensures gives { Gives pass.old window.old pass.new window.new result }
+    {
+        segments::window_next(&self.table, &mut pass.pass, window)
+    }
+
+    /// Ends a window that this pass has opened. It makes no entry, and takes no memory.
+    pub fn window_end(&self, pass: &mut QueuePass, window: Window)
+        requires of { IsInside self.now pass.old }
+        requires opened { HasOpened pass.old window }
+        ensures { pass.new ≡ record pass.old { window = None } }
+    {
+        segments::window_end(&self.table, &mut pass.pass, window)
     }
 }

@@ -1,5 +1,5 @@
 // The calls, on the pass of the segments' table.
-ghost use Rattle.std.specs.Prelude.{◌≡◌, ◌<◌, ◌≤◌, [], ◌∷◌, IfOk};
+ghost use Rattle.std.specs.Prelude.{◌≡◌, ◌<◌, ◌≤◌, [], ◌∷◌, None, IfOk};
 ghost use Rattle.ho_model.specs.Entries.{entry};
 ghost use Rattle.ho_model.specs.declared.marks.CallMark.TheVariants as callmark;
 ghost use Rattle.ho_model.specs.declared.marks.ReplyMark.TheVariants.{Counted};
@@ -7,11 +7,13 @@ ghost use Rattle.passes.specs.Numbers.{held_count};
 ghost use Rattle.queue_tries.specs.Tries.{IsIdle, enqueue_mark, dequeue_mark};
 ghost use Rattle.concurrent_queue.specs.Passes.{Answers, SplitsQueue, JoinsQueue};
 ghost use Rattle.concurrent_queue.specs.Queues.{IsFirstLength, IsTooLarge, first_of};
-ghost use Rattle.concurrent_queue.specs.Segments.{queue_view, id_of, IsBetween, IsReady};
+ghost use Rattle.concurrent_queue.specs.Segments.{queue_view, id_of, IsBetween, IsReady, IsReadyInside};
+ghost use Rattle.concurrent_queue.specs.Windows.{HasOpened, WindowsOnce, Gives};
+ghost use Rattle.seg_rule.specs.Passes as segments;
 ghost use Rattle.concurrent_queue.specs.Tries.{EnqueuesOnce, DequeuesOnce, PeeksOnce, CountsOnce};
 
 use ho_base::{NoMemory, Receipt};
-use queue_tries::{DequeueReply, EnqueueReply, QueueOnce};
+use queue_tries::{DequeueReply, EnqueueReply, Next, QueueOnce, Window};
 use seg_rule::{QueuePass, QueueTable};
 use std::alloc::Global;
 use std::sync::Wait;
@@ -189,4 +191,48 @@ pub(crate) fn join(table: &QueueTable, pass: &mut QueuePass, other: QueuePass)
     recall(table, pass);
     recall(table, &other);
     table.join(pass, other)
+}
+
+/// For the proof: the same of a pass that may have a window open.
+fn recall_inside(table: &QueueTable, pass: &QueuePass)
+    requires { IsReadyInside table.now pass.now }
+    ensures { segments.IsOf table.now pass.now }
+{
+    let _form = table.form();
+}
+
+/// Takes a snapshot, and opens a window on it.
+pub(crate) fn window_once(table: &QueueTable, pass: &mut QueuePass) -> QueueOnce<Window>
+    requires { IsReady table.now pass.old }
+    ensures pass { IsBetween pass.new }
+    ensures told { WindowsOnce (queue_view pass.old) (queue_view pass.new) table.now.form.first_len result }
+{
+    let _form = table.form();
+    recall(table, pass);
+    queue_tries::window_once(table, pass)
+}
+
+/// The next item of a window.
+pub(crate) fn window_next(table: &QueueTable, pass: &mut QueuePass, window: &mut Window) -> Next
+    requires of { IsReadyInside table.now pass.old }
+    requires opened { HasOpened (queue_view pass.old) window.old }
+    ensures pass { IsBetween pass.new }
+    ensures opened { HasOpened (queue_view pass.new) window.new }
+    ensures gives { Gives (queue_view pass.old) window.old (queue_view pass.new) window.new result }
+{
+    let _form = table.form();
+    recall_inside(table, pass);
+    queue_tries::window_next(table, pass, window)
+}
+
+/// Ends a window.
+pub(crate) fn window_end(table: &QueueTable, pass: &mut QueuePass, window: Window)
+    requires of { IsReadyInside table.now pass.old }
+    requires opened { HasOpened (queue_view pass.old) window }
+    ensures pass { IsBetween pass.new }
+    ensures ended { queue_view pass.new ≡ record (queue_view pass.old) { window = None } }
+{
+    recall_inside(table, pass);
+    queue_tries::window_end(table, pass, window);
+    settle(table, pass);
 }
