@@ -3,6 +3,7 @@ use Rattle.std.proofs.Common.{◌≡◌, ℕ, ◌+◌, ◌≤◌, List, [], ◌�
 use Rattle.std.proofs.lemmas.List.{length-map}
 use Rattle.ho_base.specs.Marks.{number_of, number_priority}
 use Rattle.ho_base.specs.declared.receipts.Receipt.{Receipt}
+use Rattle.ho_base.specs.declared.receipts.Receipt.TheVariants.{Looked}
 use Rattle.ho_model.specs.declared.marks.CallMark.{CallMark}
 use Rattle.ho_model.specs.declared.marks.CallMark.TheVariants.{Snap}
 use Rattle.ho_model.specs.declared.marks.EntryMark.{EntryMark}
@@ -16,7 +17,7 @@ use Rattle.ho_model.specs.Histories.{IsLegal}
 use Rattle.ho_model.specs.QueueReplies.{items_left}
 use Rattle.ho_model.specs.Tallies.{tally_of}
 use Rattle.ho_model.proofs.Folds.{legal_begins}
-use Rattle.ho_model.proofs.QueueLaws.{queues_count, entries_reply}
+use Rattle.ho_model.proofs.QueueLaws.{queues_count, entries_reply, snaps_find_heads}
 use Rattle.ho_model.proofs.Queues.{left_count}
 use Rattle.passes.specs.Seen.{AreOthers, SeesOthers, IsLawful}
 use Rattle.passes.specs.Views.{PassView}
@@ -34,7 +35,7 @@ use Rattle.concurrent_queue.specs.Passes.{QueueView}
 use Rattle.concurrent_queue.specs.Queues.{QueueId, IsOf, IsInside}
 use Rattle.concurrent_queue.specs.Tries.{MakesNone, IsSpent}
 use Rattle.concurrent_queue.specs.Windows.{EndsBySnap}
-use Rattle.queue_snapshot.specs.Snapshots.{TriesOn}
+use Rattle.queue_snapshot.specs.Snapshots.{TriesOn, span_of}
 
 -- before the first try
 pub tries_none : (p : PassView Obstacle) → TriesOn p p
@@ -116,8 +117,18 @@ few_shown room first_len c before numbers l =
     let many : length numbers ≡ length (items_left before) = ap (λ (ns : List ℕ). length ns) at ∙ length-map (items_left before) number_of in
     let within = counts.within in omega arith
 
+legal_at_end : (id : QueueId) (q r : QueueView) (first_len : ℕ) (w : Window) (receipt : Receipt) → IsOf id q → (e : EndsBySnap q r first_len w receipt) → IsLegal number_priority (Queue id.room id.first_len) (e.0 ++ entry q.pass.caller Snap (Numbers (items_of r.pass.seen w)) ∷ [])
+legal_at_end id q r first_len w receipt of e =
+    let legal : IsLegal number_priority (Queue id.room id.first_len) r.pass.seen = subst (λ (o : Object). IsLegal number_priority o r.pass.seen) of.1 e.1.lawful.0 in
+    subst (IsLegal number_priority (Queue id.room id.first_len)) e.1.seen.1 legal
+
 pub within_room : (id : QueueId) (q r : QueueView) (first_len : ℕ) (w : Window) (receipt : Receipt) → IsOf id q → EndsBySnap q r first_len w receipt → length (items_of r.pass.seen w) ≤ id.room
 within_room id q r first_len w receipt of e =
-    let numbers = items_of r.pass.seen w in
-    let legal : IsLegal number_priority (Queue id.room id.first_len) r.pass.seen = subst (λ (o : Object). IsLegal number_priority o r.pass.seen) of.1 e.1.lawful.0 in
-    few_shown id.room id.first_len q.pass.caller e.0 numbers (subst (IsLegal number_priority (Queue id.room id.first_len)) e.1.seen.1 legal)
+    few_shown id.room id.first_len q.pass.caller e.0 (items_of r.pass.seen w) (legal_at_end id q r first_len w receipt of e)
+
+-- its receipt tells how many it shows
+pub span_is : (id : QueueId) (q r : QueueView) (first_len : ℕ) (w : Window) (receipt : Receipt) → IsOf id q → EndsBySnap q r first_len w receipt → span_of receipt ≡ length (items_of r.pass.seen w)
+span_is id q r first_len w (Looked head tail) of e =
+    let legal = legal_at_end id q r first_len w (Looked head tail) of e in
+    let is = snaps_find_heads number_priority id.room id.first_len e.0 [] q.pass.caller head tail (items_of r.pass.seen w) legal e.2 in omega arith
+span_is id q r first_len w receipt of e = absurd e.2

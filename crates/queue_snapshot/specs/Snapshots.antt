@@ -1,6 +1,7 @@
 -- A snapshot of a queue: p is the pass before a call, and q after.
-use Rattle.std.specs.Prelude.{◌≡◌, ℕ, List, ◌++◌, length, slice_get, Option, Some, None, Result, Ok, Err}
+use Rattle.std.specs.Prelude.{◌≡◌, ℕ, List, ◌++◌, ◌-◌, length, slice_get, Option, Some, None, Result, Ok, Err}
 use Rattle.ho_base.specs.declared.receipts.Receipt.{Receipt}
+use Rattle.ho_base.specs.declared.receipts.Receipt.TheVariants.{Looked}
 use Rattle.ho_base.specs.declared.memory.NoMemory.{NoMemory}
 use Rattle.ho_model.specs.declared.marks.CallMark.TheVariants.{Snap}
 use Rattle.ho_model.specs.declared.marks.ReplyMark.TheVariants.{Numbers}
@@ -33,6 +34,11 @@ pub record TriesOn {O : Type 0} (p q : PassView O) : Type 0 where
 -- a snapshot's entry, whose window has given none of its items
 abbrev pub Opens : ℕ → QueueView → QueueView → Window → Receipt → Type 0
 Opens first_len p q w receipt = EndsBySnap p q first_len w receipt × (given_of w ≡ 0)
+
+-- how many positions lie from the head up to the tail
+abbrev pub span_of : Receipt → ℕ
+span_of (Looked head tail) = tail - head
+span_of _ = 0
 
 module _ (p : QueueView) (a : Window) (q : QueueView) (b : Window) where
   -- the pass has read of others alone, and the window gave so many items more

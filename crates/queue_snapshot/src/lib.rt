@@ -1,8 +1,8 @@
 //! Snapshots of a shared queue of numbers: all items that it has at one step, whatever other callers do
 //! meanwhile.
 //!
-//! [`to_vec`] gives them as a list. Its entry is made at one step; the items are read afterwards, while other
-//! callers go on to enqueue and to take. They lie in places that the snapshot holds, and that are not used
+//! [`observe`] gives them one by one, and [`to_vec`] as a list. The entry is made at one step; the items are
+//! read afterwards, while other callers go on to enqueue and to take. They lie in places that the snapshot holds, and that are not used
 //! again before it is read.
 //!
 //! Stands on `concurrent_queue`, whose windows it opens, reads and ends, on `pauses` between tries, and on
@@ -14,11 +14,13 @@
 #![tactic(auto)]
 
 mod items;
+mod observed;
 mod opening;
 mod vectors;
 
 // what the calls name of the crates below, so that a client lists none of these
-pub use concurrent_queue::{ConcurrentQueue, Items, NoMemory, QueuePass, Receipt};
+pub use concurrent_queue::{ConcurrentQueue, Items, Next, NoMemory, QueuePass, Receipt};
+pub use observed::{Observed, observe};
 pub use vectors::to_vec;
 
 #[cfg(test)]
